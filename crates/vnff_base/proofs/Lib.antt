@@ -1,0 +1,8 @@
+pub mod HexLemmas
+pub mod LineLemmas
+pub mod NumberLemmas
+pub mod Reading
+pub mod TextLaws
+pub mod Writing
+mod OutsideExamples
+mod WordExamples

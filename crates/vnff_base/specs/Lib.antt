@@ -1,0 +1,10 @@
+pub mod Bytes
+pub mod Counts
+pub mod Hex
+pub mod Lines
+pub mod MemOuts
+pub mod MemShelves
+pub mod Numbers
+pub mod Outputs
+pub mod Reads
+pub mod Shelves

@@ -1,0 +1,24 @@
+-- What a shelf of files tells, and what a read of it gives.
+use Rattle.std.specs.Prelude.{◌≡◌, ℕ, ◌<◌, ◌≤◌, List, length, take, drop, Option, None, IfSome, IsSomeAnd, ◌⊎◌}
+use Rattle.vnff_base.specs.Counts.{Rose}
+
+-- the files of a shelf: a name's bytes, where there is a file of that name
+abbrev pub Files : Type 0
+Files = List ℕ → Option (List ℕ)
+
+-- The shelf tells its files, and the name isn't among them.
+abbrev pub IsMissing : Option Files → List ℕ → Type 0
+IsMissing told name = IsSomeAnd told (λ files. files name ≡ None)
+
+-- A read of n bytes at a place of a file left them in the buffer's front; none means the end of the file.
+pub record Fills (file : List ℕ) (place n : ℕ) (buffer : List ℕ) : Type 0 where
+  pub front : take n buffer ≡ take n (drop place file)
+  pub ends : n ≡ 0 → 0 < length buffer → length file ≤ place
+
+-- Where the shelf tells its files, the file of that name is there, and the read was of its bytes.
+abbrev pub ReadsFile : Option Files → List ℕ → ℕ → ℕ → List ℕ → Type 0
+ReadsFile told name place n buffer = IfSome told (λ files. IsSomeAnd (files name) (λ file. Fills file place n buffer))
+
+-- A read that failed: the count of failures rose, or the name is missing.
+abbrev pub HasCause : ℕ → ℕ → Option Files → List ℕ → Type 0
+HasCause before now told name = Rose before now ⊎ IsMissing told name

@@ -1,0 +1,42 @@
+//! Files in, bytes out, and the words that the product's files are made of.
+//!
+//! The program reaches files and outputs through two traits alone, [`Shelf`] and [`Out`], so that what it reads and
+//! writes can be said of any of them: `MemShelf` and `MemOut` hold everything in memory, and tests let them fail at
+//! chosen calls; `DirShelf` and `StdOut` are the trusted edge to real files and to standard output. The spelling of bytes,
+//! numbers, lines and words is this project's own.
+//!
+//! It promises that `read_all` gives the bytes that the shelf tells under the name, and says when it gives none; that each
+//! call that writes appended its text, or a front of it where the output failed; that `hex_put` and `hex_read`, and
+//! `num_read`, are the spelling of bytes and of numbers; and that lines and words are those of the text.
+//!
+//! Definitions, in specs/: `Shelves` and `Reads` (what is read), `Outputs` (what is written), `Counts` (of failures and of
+//! bytes given), `MemShelves` and `MemOuts`; `Hex`, `Numbers` and `Lines`. The laws of writing stand in
+//! `proofs/Writing.antt`, those of lines and words in `proofs/LineLemmas.antt` and `proofs/TextLaws.antt`, for the crates
+//! above.
+#![tactic(auto)]
+
+pub mod dir_shelf;
+pub mod hex;
+pub mod list;
+pub mod mem_out;
+pub mod mem_shelf;
+pub mod number;
+pub mod out;
+pub mod put_hex;
+pub mod shelf;
+pub mod std_out;
+pub mod text;
+pub mod whole_file;
+
+pub use dir_shelf::DirShelf;
+pub use hex::{HexErr, hex_read};
+pub use list::List;
+pub use mem_out::MemOut;
+pub use mem_shelf::MemShelf;
+pub use number::num_read;
+pub use out::{Failed, Out};
+pub use put_hex::hex_put;
+pub use shelf::Shelf;
+pub use std_out::StdOut;
+pub use text::{Line, LineReader, first_line, first_word, word_at, word_count};
+pub use whole_file::{ReadErr, read_all};

@@ -1,0 +1,80 @@
+//! Bytes in hexadecimal, put to an output.
+
+ghost use Rattle.std.specs.Prelude.{◌≡◌, ◌+◌, ◌*◌, ◌<◌, ◌≤◌, length, take};
+ghost use Rattle.std.specs.Char.{digit_char};
+ghost use Rattle.std.specs.List.{flat_map};
+ghost use Rattle.vnff_base.specs.Hex.{hex_text, hex_pair};
+ghost use Rattle.vnff_base.specs.Outputs.{Writes};
+
+use crate::out::{Failed, Out};
+
+/// How many bytes are spelled for one put.
+const PIECE: usize = 64;
+
+/// Writes the bytes in hexadecimal: two digits a byte, letters in lower case, and `-` for no bytes.
+pub fn hex_put<O: Out>(out: &mut O, bytes: &[u8]) -> Result<(), Failed>
+    ensures { Writes (O.told out.old) (O.told out.new) (O.faults out.old) (O.faults out.new) (hex_text bytes.now) result }
+{
+    if bytes.is_empty() {
+        return out.put(b"-");
+    }
+    let mut at = 0;
+    while at < bytes.len() {
+        let end = bytes.len().min(at + PIECE);
+        put_piece(out, &bytes[at..end])?;
+        at = end;
+    }
+    Ok(())
+}
+
+/// Writes the digits of a few bytes by one put.
+fn put_piece<O: Out>(out: &mut O, piece: &[u8]) -> Result<(), Failed>
+    requires { length piece.now ≤ PIECE }
+    ensures { Writes (O.told out.old) (O.told out.new) (O.faults out.old) (O.faults out.new) (flat_map hex_pair piece.now) result }
+{
+    let mut digits = [0u8; 2 * PIECE];
+    spell(piece, &mut digits);
+    out.put(&digits[..2 * piece.len()])
+}
+
+/// Writes the digits of some bytes into the front of a buffer.
+fn spell(bytes: &[u8], digits: &mut [u8])
+    requires { 2 * length bytes.now ≤ length digits.old }
+    ensures { take (2 * length bytes.now) digits.new ≡ flat_map hex_pair bytes.now }
+{
+    for (place, byte) in bytes.iter().enumerate() {
+        digits[2 * place] = digit(*byte / 16);
+        digits[2 * place + 1] = digit(*byte % 16);
+    }
+}
+
+/// The digit of four bits.
+fn digit(value: u8) -> u8
+    requires { value < 16 }
+    ensures { result ≡ digit_char value }
+{
+    if value < 10 {
+        b'0' + value
+    } else {
+        b'a' + (value - 10)
+    }
+}
+
+#[cfg(test)]
+mod tests {
+    use super::*;
+    use crate::mem_out::MemOut;
+    use std::test::Fail;
+
+    #[test]
+    fn spells_bytes(rt: HostRuntime) -> Result<(), Fail> {
+        let mut out = MemOut::new(rt.alloc(), 256)?;
+        assert_eq!(rt; hex_put(&mut out, &[]), Ok(()));
+        assert_eq!(rt; hex_put(&mut out, &[0x00, 0x5a, 0xf9]), Ok(()));
+        assert_eq!(rt; out.bytes(), b"-005af9".as_slice());
+        assert_eq!(rt; hex_put(&mut out, &[0xab; 65]), Ok(()));
+        assert_eq!(rt; out.bytes().len(), 137);
+        assert_eq!(rt; hex_put(&mut out, &[0xab; 65]), Err(Failed));
+        Ok(())
+    }
+}

@@ -1,0 +1,50 @@
+//! Standard output: the edge where proofs end.
+
+ghost use Rattle.std.specs.Prelude.{◌≡◌, None};
+
+use crate::out::{Failed, Out};
+
+/// Standard output. It tells no contract what was written.
+#[derive(Drop)]
+pub struct StdOut<R> {
+    rt: R,
+    faults: u64,
+}
+
+impl<R: Print> StdOut<R> {
+    /// Standard output of the runtime, with no failure yet.
+    pub fn new(rt: R) -> StdOut<R>
+        ensures { ⟦<StdOut<R> as Out>⟧.faults result ≡ 0 }
+    {
+        StdOut { rt, faults: 0 }
+    }
+}
+
+impl<R: Print> Out for StdOut<R> {
+    ghost told = { λ _. None };
+
+    ghost faults = { λ o. o.faults };
+
+    fn put(&mut self, piece: &[u8]) -> Result<(), Failed> {
+        match self.rt.write_all(piece) {
+            Ok(()) => Ok(()),
+            Err(_) => {
+                self.faults = self.faults.saturating_add(1);
+                Err(Failed)
+            }
+        }
+    }
+}
+
+#[cfg(test)]
+mod tests {
+    use super::*;
+    use std::test::Fail;
+
+    #[test]
+    fn writes_to_standard_output(rt: HostRuntime) -> Result<(), Fail> {
+        let mut out = StdOut::new(rt.clone()?);
+        assert_eq!(rt; out.put(b"standard output\n"), Ok(()));
+        Ok(())
+    }
+}

@@ -1,0 +1,211 @@
+//! Lines and words of a text, as scripts and tables share them. A text is any bytes, and none of
+//! its lines is copied.
+ghost use Rattle.std.specs.Prelude.{◌≡◌, ◌<◌, ◌≤◌, ◌∷◌, [], length, slice_get, false, position, MatchOption, IfSome};
+ghost use Rattle.std.specs.List.{position_or_len, prefix_len};
+ghost use Rattle.std.specs.Option.{option_copied};
+ghost use Rattle.std.specs.Str.Lines.{lines, strip_carriage_return};
+ghost use Rattle.vnff_base.specs.Lines.{is_blank, is_line_feed, is_skipped, unread_from, words_of};
+
+use std::marker::Model;
+
+/// A line of a text that has a word and is no comment.
+#[derive(Clone, Copy, Debug)]
+pub struct Line<'a> {
+    /// The line's number in its text; lines count from 1.
+    pub number: u64,
+    /// The line without the bytes that end it.
+    pub text: &'a [u8],
+}
+
+/// A text that is read line by line. Contracts see the lines that are left, and the number at which
+/// a missing line is reported.
+#[derive(Drop)]
+pub struct LineReader<'a> {
+    rest: &'a [u8],
+    number: u64,
+}
+
+impl<'a> Model for LineReader<'a> {
+    ghost use Rattle.std.specs.Prelude.{◌+◌, ◌<◌, ◌^◌, length};
+    ghost use Rattle.vnff_base.specs.Lines.{UnreadLines, unread_from};
+
+    ghost Value = { UnreadLines };
+
+    ghost view = { λ reader. unread_from reader.number reader.rest.now };
+
+    ghost invariant = { λ reader. reader.number + length reader.rest.now < 2 ^ 64 };
+}
+
+impl<'a> LineReader<'a> {
+    /// Reads a text from its first line.
+    pub fn new(text: &'a [u8]) -> LineReader<'a>
+        ensures { result ≡ unread_from 1 text.now }
+    {
+        LineReader {
+            rest: text,
+            number: 1,
+        }
+    }
+
+    /// The next line that has a word and is no comment. A comment's first word begins with `#`.
+    #[tactic(auto, using(crate::proofs::LineLemmas::reader_steps))]
+    pub fn next_line(&mut self) -> Option<Line<'a>>
+        ensures next { MatchOption result ((self.old.left ≡ []) × (self.new.left ≡ []))
+            (λ line. self.old.left
+            ≡ record { number = line.number; words = words_of line.text.now } ∷ self.new.left) }
+        ensures not_skipped { IfSome result (λ line. is_skipped (words_of line.text.now) ≡ false) }
+        ensures missing { self.new.missing ≡ self.old.missing }
+    {
+        while let Some((line, rest)) = first_line(self.rest) {
+            let number = self.number;
+            self.rest = rest;
+            self.number += 1;
+            if !is_skipped(line) {
+                return Some(Line { number, text: line });
+            }
+        }
+        None
+    }
+
+    /// The number at which a missing line is reported: one above that of the last line.
+    pub fn missing(&self) -> u64
+        ensures { result ≡ self.now.missing }
+    {
+        let mut number = self.number;
+        let mut rest = self.rest;
+        while let Some((_, more)) = first_line(rest) {
+            number += 1;
+            rest = more;
+        }
+        number
+    }
+}
+
+// A line without a word, or a comment.
+fn is_skipped(line: &[u8]) -> bool
+    ensures { result ≡ is_skipped (words_of line.now) }
+{
+    match first_word(line) {
+        None => true,
+        Some((word, _)) => matches!(word, [b'#', ..]),
+    }
+}
+
+/// The first line of a text without the bytes that end it, and the text after them; none of an empty
+/// text. A line feed ends a line, and one carriage return before it does not belong to the line.
+pub fn first_line(text: &[u8]) -> Option<(&[u8], &[u8])>
+    ensures first { MatchOption result (lines text.now ≡ [])
+        (λ found. lines text.now ≡ found.0.now ∷ lines found.1.now) }
+    ensures shorter { IfSome result (λ found. length found.1.now < length text.now) }
+{
+    match line_end(text) {
+        Some(end) => Some((without_carriage_return(&text[..end]), &text[end + 1..])),
+        None if text.is_empty() => None,
+        None => Some((text, &[])),
+    }
+}
+
+// Where the line feed stands that ends the first line.
+fn line_end(text: &[u8]) -> Option<usize>
+    ensures { result ≡ position is_line_feed text.now }
+{
+    text.iter().position(|byte| *byte == b'\n')
+}
+
+fn without_carriage_return(line: &[u8]) -> &[u8]
+    ensures { result.now ≡ strip_carriage_return line.now }
+{
+    match line {
+        [front @ .., b'\r'] => front,
+        _ => line,
+    }
+}
+
+/// The first word of a line and what follows it; none of a line that has no word. Spaces and tabs
+/// separate words.
+pub fn first_word(line: &[u8]) -> Option<(&[u8], &[u8])>
+    ensures first { MatchOption result (words_of line.now ≡ [])
+        (λ found. words_of line.now ≡ found.0.now ∷ words_of found.1.now) }
+    ensures shorter { IfSome result (λ found. length found.1.now < length line.now) }
+{
+    let words = &line[blank_len(line)..];
+    if words.is_empty() {
+        return None;
+    }
+    Some(words.split_at(word_len(words)))
+}
+
+/// How many words a line has.
+pub fn word_count(line: &[u8]) -> usize
+    ensures { result ≡ length (words_of line.now) }
+{
+    let mut count = 0;
+    let mut rest = line;
+    while let Some((_, more)) = first_word(rest) {
+        count += 1;
+        rest = more;
+    }
+    count
+}
+
+/// The word of a line at a place, counted from 0.
+#[tactic(auto, using(crate::proofs::LineLemmas::places_of_words))]
+pub fn word_at(line: &[u8], place: usize) -> Option<&[u8]>
+    ensures { option_copied result ≡ slice_get (words_of line.now) place }
+{
+    let mut rest = line;
+    for _ in 0..place {
+        (_, rest) = first_word(rest)?;
+    }
+    let (word, _) = first_word(rest)?;
+    Some(word)
+}
+
+// How many blanks a line begins with.
+fn blank_len(line: &[u8]) -> usize
+    ensures count { result ≡ prefix_len is_blank line.now }
+    ensures inside { result ≤ length line.now }
+{
+    line.iter().take_while(|byte| is_blank(**byte)).count()
+}
+
+// How many bytes a line has before its first blank.
+fn word_len(line: &[u8]) -> usize
+    ensures count { result ≡ position_or_len is_blank line.now }
+    ensures inside { result ≤ length line.now }
+{
+    line.iter().take_while(|byte| !is_blank(**byte)).count()
+}
+
+fn is_blank(byte: u8) -> bool
+    ensures { result ≡ is_blank byte }
+{
+    byte == b' ' || byte == b'\t'
+}
+
+#[cfg(test)]
+mod tests {
+    use super::*;
+    use std::test::Fail;
+
+    #[test]
+    fn lines_and_words(rt: HostRuntime) -> Result<(), Fail> {
+        let text = b"# ports\r\n \t\r\nframe\t 00ff  \r\n\nselect eth\r";
+        let mut reader = LineReader::new(text);
+        assert_eq!(rt; reader.missing(), 6);
+        let line = reader.next_line().ok_or("a line")?;
+        assert_eq!(rt; line.number, 3);
+        assert_eq!(rt; word_count(line.text), 2);
+        assert!(rt; word_at(line.text, 1) == Some(b"00ff".as_slice()));
+        let (word, rest) = first_word(line.text).ok_or("a word")?;
+        assert!(rt; word == b"frame".as_slice());
+        assert_eq!(rt; word_count(rest), 1);
+        let last = reader.next_line().ok_or("a last line")?;
+        assert_eq!(rt; last.number, 5);
+        assert!(rt; word_at(last.text, 1) == Some(b"eth\r".as_slice()));
+        assert!(rt; reader.next_line().is_none());
+        let (first, _) = first_line(text).ok_or("a first line")?;
+        assert!(rt; first == b"# ports".as_slice());
+        Ok(())
+    }
+}

@@ -1,0 +1,102 @@
+//! A whole file, read from a shelf.
+
+ghost use Rattle.std.specs.Prelude.{◌≡◌, ℕ, ◌+◌, ◌<◌, ◌≤◌, length, IfOk, IsErrOf};
+ghost use Rattle.vnff_base.specs.Counts.{count_after};
+ghost use Rattle.vnff_base.specs.Reads.{OfFile};
+ghost use Rattle.vnff_base.specs.Shelves.{HasCause};
+
+use crate::shelf::Shelf;
+use std::alloc::{AllocError, Global};
+use thiserror::Error;
+
+/// How many bytes are asked of the shelf at once.
+const PIECE: usize = 65_536;
+
+/// Why a file wasn't read.
+#[derive(Clone, Copy, Debug, PartialEq, Eq, Error)]
+pub enum ReadErr {
+    /// The shelf failed, or the file isn't there.
+    #[error("the file can't be read")]
+    ReadFault,
+    /// The file has more bytes than the limit.
+    #[error("the file is too long")]
+    TooLong,
+    /// Memory ran out.
+    #[error("out of memory")]
+    Memory,
+}
+
+/// Reads the file of that name from its first byte to its end, at most `limit` bytes of it. The limit is
+/// 64 MiB at most.
+pub fn read_all<S: Shelf>(
+    alloc: Global,
+    shelf: &mut S,
+    name: &str,
+    limit: u64,
+) -> Result<Vec<u8>, ReadErr>
+    requires { limit ≤ 67108864 }
+    ensures bytes { IfOk result (λ v. OfFile (S.files shelf.old) name.now (λ file. file ≡ v.items)) }
+    ensures within { IfOk result (λ v. length v.items ≤ limit) }
+    ensures fault { IsErrOf result ReadErr.ReadFault
+        → HasCause (S.faults shelf.old) (S.faults shelf.new) (S.files shelf.old) name.now }
+    ensures longer { IsErrOf result ReadErr.TooLong
+        → OfFile (S.files shelf.old) name.now (λ file. limit < length file) }
+    ensures taken { IsErrOf result ReadErr.TooLong
+        → count_after (S.given shelf.old) (limit + 1) ≤ S.given shelf.new }
+
+    // Only a read that failed touches the count of failures.
+    ensures same_count { (IsErrOf result ReadErr.ReadFault → ⊥) → S.faults shelf.new ≡ S.faults shelf.old }
+    ensures grew { S.faults shelf.old ≤ S.faults shelf.new }
+    ensures same_files { S.files shelf.new ≡ S.files shelf.old }
+{
+    let mut piece = new_piece(alloc).map_err(|_| ReadErr::Memory)?;
+    let mut bytes = Vec::new(alloc);
+    loop {
+        let at = bytes.len() as u64;
+        let Ok(taken) = shelf.read_at(name, at, piece.as_mut_slice()) else {
+            return Err(ReadErr::ReadFault);
+        };
+        if taken == 0 {
+            return Ok(bytes);
+        }
+        if taken as u64 > limit - at {
+            return Err(ReadErr::TooLong);
+        }
+        if bytes.extend_from_slice(&piece.as_slice()[..taken]).is_err() {
+            return Err(ReadErr::Memory);
+        }
+    }
+}
+
+/// Room for one piece of a file, off the stack.
+fn new_piece(alloc: Global) -> Result<Vec<u8>, AllocError>
+    ensures { IfOk result (λ v. length v.items ≡ PIECE) }
+{
+    vec![in alloc; 0u8; PIECE]
+}
+
+#[cfg(test)]
+mod tests {
+    use super::*;
+    use crate::mem_shelf::MemShelf;
+    use std::test::Fail;
+
+    #[test]
+    fn reads_to_the_end(rt: HostRuntime) -> Result<(), Fail> {
+        let file = vec![in rt.alloc(); 7u8; 2 * PIECE + 1]?;
+        let length = file.len() as u64;
+        let mut shelf = MemShelf::new(rt.alloc());
+        shelf.add("file", file.as_slice())?;
+        shelf.fail_at(7)?;
+        // Four reads, and then three: the piece behind the limit is the last.
+        let whole = read_all(rt.alloc(), &mut shelf, "file", length);
+        assert_eq!(rt; whole.ok().ok_or("not read")?, file);
+        let longer = read_all(rt.alloc(), &mut shelf, "file", length - 1);
+        assert_eq!(rt; longer.err(), Some(ReadErr::TooLong));
+        let failed = read_all(rt.alloc(), &mut shelf, "file", length);
+        assert_eq!(rt; failed.err(), Some(ReadErr::ReadFault));
+        let missing = read_all(rt.alloc(), &mut shelf, "other", length);
+        assert_eq!(rt; missing.err(), Some(ReadErr::ReadFault));
+        Ok(())
+    }
+}
