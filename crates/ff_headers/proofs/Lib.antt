@@ -1,0 +1,8 @@
+mod Examples
+pub mod Rising
+pub mod ShapeLemmas
+pub mod MatchingLemmas
+pub mod EntryLemmas
+pub mod OrderLemmas
+pub mod PlaceLemmas
+pub mod ChangeLemmas

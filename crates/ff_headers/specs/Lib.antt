@@ -1,0 +1,9 @@
+pub mod Kinds
+pub mod SelectorParts
+pub mod Shapes
+pub mod RuleParts
+pub mod Frames
+pub mod Matching
+pub mod Objects
+pub mod Places
+pub mod Changes

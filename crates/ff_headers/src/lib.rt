@@ -1,0 +1,37 @@
+//! Flow-filter headers: what a rule, a selector and a frame's headers are, and when a rule matches a frame.
+//!
+//! The types follow the flow filters of the Virtio 1.4 draft (network device, "Flow filter") and the structures of Linux
+//! `virtio_net_ff.h`: a selector names a header and a mask, a classifier is a list of selectors, a rule has a key for
+//! its classifier. Which headers a frame has, that both key and frame are masked, and the order of rules are this
+//! project's own.
+//!
+//! It promises that `Headers::parse` holds exactly the headers that a frame has, that `matches` says whether each selected
+//! header equals the key's part under the mask, and that `Selectors::of` accepts exactly the lists of good shape. It also
+//! defines what a list of changes to groups, classifiers and rules leaves, and which rule is the first that matches;
+//! the device, the search and the published tables all cite these definitions.
+//!
+//! Definitions, in specs/: `Kinds` and `SelectorParts`, `Shapes` (good shape), `Frames` (headers), `Matching` (a selector
+//! fits, a rule matches), `RuleParts` and `Objects` (well-formed objects), `Places` (first rule, action), `Changes`.
+//! The laws that stand on no other call are those of `laws`.
+#![tactic(auto)]
+
+mod change;
+mod headers;
+mod kind;
+pub mod laws;
+mod limits;
+mod matching;
+mod rule;
+mod selector;
+mod selectors;
+#[cfg(test)]
+mod tests;
+
+pub use change::Change;
+pub use headers::Headers;
+pub use kind::Kind;
+pub use limits::Limits;
+pub use matching::matches;
+pub use rule::{Action, Key, RuleAction, RuleObj};
+pub use selector::Selector;
+pub use selectors::{Selectors, ShapeErr};

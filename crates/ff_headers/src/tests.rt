@@ -1,0 +1,62 @@
+//! Each public call once, on a frame of two addresses and the type 0x0800.
+
+use crate::{
+    Action, Change, Headers, Key, Kind, Limits, RuleAction, RuleObj, Selector, Selectors, ShapeErr,
+    matches,
+};
+use std::test::Fail;
+
+const FRAME: [u8; 14] = [1, 2, 3, 4, 5, 6, 7, 8, 9, 10, 11, 12, 8, 0];
+
+const TYPE_MASK: [u8; 14] = [15, 0, 0, 0, 0, 0, 0, 0, 0, 0, 0, 0, 255, 255];
+
+#[test]
+fn kinds_have_codes(rt: HostRuntime) -> Result<(), Fail> {
+    assert_eq!(rt; Kind::of_code(3), Some(Kind::Ipv6));
+    assert_eq!(rt; Kind::Ipv6.code(), 3);
+    assert_eq!(rt; Kind::Ipv6.size(), 40);
+    assert_eq!(rt; Kind::of_code(6), None);
+    Ok(())
+}
+
+#[test]
+fn a_masked_rule_matches(rt: HostRuntime) -> Result<(), Fail> {
+    let selector = Selector::new(Kind::Eth, 1, &TYPE_MASK);
+    let list = [selector];
+    let selectors = Selectors::of(&list).ok().ok_or("shape")?;
+    assert_eq!(rt; selectors.key_size(), 14);
+    assert_eq!(rt; selectors.as_slice().len(), 1);
+
+    let mut key = Key::new();
+    let bytes = [241, 9, 9, 9, 9, 9, 9, 9, 9, 9, 9, 9, 8, 0];
+    key.try_extend_from_slice(&bytes).ok().ok_or("room")?;
+    let headers = Headers::parse(&FRAME);
+    assert_eq!(rt; headers.get(Kind::Eth).is_some(), true);
+    assert_eq!(rt; headers.get(Kind::Udp).is_some(), false);
+    assert!(rt; key.len() == selectors.key_size());
+    assert!(rt; matches(&selectors, &key, &headers));
+    assert!(rt; !matches(&selectors, &key, &Headers::parse(&[])));
+    Ok(())
+}
+
+#[test]
+fn shapes_are_refused(rt: HostRuntime) -> Result<(), Fail> {
+    assert_eq!(rt; Selectors::of(&[]), Err(ShapeErr::Empty));
+    let twice = [Selector::default(), Selector::default()];
+    assert_eq!(rt; Selectors::of(&twice), Err(ShapeErr::Order));
+    Ok(())
+}
+
+#[test]
+fn a_copy_is_equal(rt: HostRuntime) -> Result<(), Fail> {
+    let rule = RuleObj::new(7, 1, 2, RuleAction::Queue, 4, Key::new());
+    assert_eq!(rt; rule.group(), 7);
+    assert_eq!(rt; rule.classifier(), 1);
+    assert_eq!(rt; rule.priority(), 2);
+    assert_eq!(rt; rule.action(), RuleAction::Queue);
+    assert_eq!(rt; rule.vq(), 4);
+    assert_eq!(rt; rule.key().len(), 0);
+    let change = Change::PutRule(5, rule);
+    assert_eq!(rt; change.copy(), change);
+    Ok(())
+}
