@@ -1,0 +1,6 @@
+pub mod CreateAnswer
+mod Examples
+pub mod FreeList
+pub mod Linked
+pub mod Objects
+pub mod Places

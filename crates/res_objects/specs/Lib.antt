@@ -1,0 +1,4 @@
+pub mod Answers
+pub mod BoundedMap
+pub mod Linked
+pub mod Places
