@@ -1,0 +1,11 @@
+use Rattle.std.proofs.Common.{◌≡◌, length, take}
+use Rattle.std.specs.List.{flat_map, range_with_len}
+use Rattle.vnff_base.specs.Outputs.{Wrote}
+use Rattle.vnff_run.specs.Replay.{line_at, state_behind}
+use Rattle.vnff_run.proofs.replay.put_items.Given as goal
+
+abbrev pub invariant-loop-item : goal.invariant-loop-item
+invariant-loop-item g l = record {
+  state : l.device ≡ state_behind l.initial.device (take l.item-index l.items);
+  wrote : Wrote (g.O.Out.told l.initial.out) (g.O.Out.told l.out) (g.O.Out.faults l.initial.out) (g.O.Out.faults l.out) (flat_map (line_at l.initial.device l.items) (take l.item-index (range_with_len 0 (length l.items))));
+}

@@ -1,0 +1,13 @@
+pub mod Candidates
+pub mod Caps
+pub mod Creates
+pub mod DeviceParts
+pub mod Endings
+pub mod LimitedObjects
+pub mod Outcomes
+pub mod Refusals
+pub mod Replay
+pub mod Script
+pub mod States
+pub mod Steps
+pub mod Verdicts
