@@ -5,9 +5,10 @@ use borrow.Author.Tests.{le-ltb, lt-ltb}
 use Rattle.vnff_base.specs.Shelves.{Files}
 use Rattle.vnff_base.specs.Reads.{OfFile}
 use Rattle.vnff_base.proofs.Writing.{told_after-nil}
-use Rattle.vnff_run.specs.Outcomes.{Outcome, file_limit, refused_too_long, of_script, of_file}
+use Rattle.vnff_run.specs.Outcomes.{Outcome, refused_too_long, of_script, of_file}
 use Rattle.vnff_run.specs.Endings.{Written, WroteFront, Ends, done, stopped, spent, EndsFile, unread, unheld, read}
 use Rattle.vnff_run.specs.Script.{built_script_of}
+use Rattle.vnff_run.specs.declared.program.TheConstants.{FILE_LIMIT}
 use Rattle.vnff_run.specs.declared.script.Script.{Script}
 use Rattle.vnff_run.specs.declared.script.Reason.{Reason}
 
@@ -20,21 +21,21 @@ pub of_script-low : (script : Result Script (ℕ × Reason)) → (of_script scri
 of_script-low (Ok script) = omega arith
 of_script-low (Err fault) = omega arith
 
-of_file-held : (file : Option (List ℕ)) (bytes : List ℕ) → IsSomeAnd file (λ f. f ≡ bytes) → length bytes ≤ file_limit → of_file file ≡ of_script (built_script_of bytes)
+of_file-held : (file : Option (List ℕ)) (bytes : List ℕ) → IsSomeAnd file (λ f. f ≡ bytes) → length bytes ≤ FILE_LIMIT → of_file file ≡ of_script (built_script_of bytes)
 of_file-held None bytes is short = absurd is
-of_file-held (Some f) bytes is short = rw (is, le-ltb file_limit (length bytes) short) refl
+of_file-held (Some f) bytes is short = rw (is, le-ltb FILE_LIMIT (length bytes) short) refl
 
-of_file-long : (file : Option (List ℕ)) → IsSomeAnd file (λ f. file_limit < length f) → of_file file ≡ record { status = 1; text = refused_too_long }
+of_file-long : (file : Option (List ℕ)) → IsSomeAnd file (λ f. FILE_LIMIT < length f) → of_file file ≡ record { status = 1; text = refused_too_long }
 of_file-long None long = absurd long
-of_file-long (Some f) long = rw (lt-ltb file_limit (length f) long) refl
+of_file-long (Some f) long = rw (lt-ltb FILE_LIMIT (length f) long) refl
 
 -- a file that was read whole
-pub outcome_read : (told : Option Files) (name bytes : List ℕ) → OfFile told name (λ f. f ≡ bytes) → length bytes ≤ file_limit → IfSome told (λ files. of_file (files name) ≡ of_script (built_script_of bytes))
+pub outcome_read : (told : Option Files) (name bytes : List ℕ) → OfFile told name (λ f. f ≡ bytes) → length bytes ≤ FILE_LIMIT → IfSome told (λ files. of_file (files name) ≡ of_script (built_script_of bytes))
 outcome_read None name bytes is short = tt
 outcome_read (Some files) name bytes is short = of_file-held (files name) bytes is short
 
 -- a file that is too long
-pub outcome_long : (told : Option Files) (name : List ℕ) → OfFile told name (λ f. file_limit < length f) → IfSome told (λ files. of_file (files name) ≡ record { status = 1; text = refused_too_long })
+pub outcome_long : (told : Option Files) (name : List ℕ) → OfFile told name (λ f. FILE_LIMIT < length f) → IfSome told (λ files. of_file (files name) ≡ record { status = 1; text = refused_too_long })
 outcome_long None name long = tt
 outcome_long (Some files) name long = of_file-long (files name) long
 

@@ -4,6 +4,7 @@ use Rattle.std.specs.Str.{bytes_eq}
 use Rattle.vnff_base.specs.Shelves.{Files}
 use Rattle.vnff_run.specs.Script.{built_script_of}
 use Rattle.vnff_run.specs.Replay.{replay_text, line_feed}
+use Rattle.vnff_run.specs.declared.program.TheConstants.{FILE_LIMIT}
 use Rattle.vnff_run.specs.declared.script.Script.{Script}
 use Rattle.vnff_run.specs.declared.script.Reason.{Reason}
 
@@ -14,10 +15,6 @@ pub record Outcome : Type 0 where
 
 abbrev pub silent : ℕ → Outcome
 silent status = record { status = status; text = [] }
-
--- the longest file that is read, in bytes: 64 MiB
-abbrev pub file_limit : ℕ
-file_limit = 67108864
 
 abbrev pub refused_too_long : List ℕ
 refused_too_long = codes "refused script too-long" ++ line_feed
@@ -34,7 +31,7 @@ of_script (Err fault) = record { status = 1; text = refused_unbuilt }
 abbrev pub of_file : Option (List ℕ) → Outcome
 of_file None = silent 3
 of_file (Some bytes) =
-    if nat_lt file_limit (length bytes) then record { status = 1; text = refused_too_long }
+    if nat_lt FILE_LIMIT (length bytes) then record { status = 1; text = refused_too_long }
     else of_script (built_script_of bytes)
 
 -- the file that the words name, where they are `replay SCRIPT`

@@ -1,6 +1,7 @@
 -- The grammar of scripts, this project's own: lines of words, a version, a device, and then administration commands
 -- and frames. A start `reset` and lines that name selectors are not read yet.
-use Rattle.std.specs.Prelude.{ℕ, Bool, true, false, not, ◌&&◌, ◌||◌, List, [], ◌∷◌, length, codes, Option, Some, None, Result, Ok, Err, option_and_then, nat_le, ◌==◌, if◌then◌else◌}
+use Rattle.std.specs.Prelude.{ℕ, Bool, true, false, not, ◌&&◌, ◌||◌, ◌==◌, if◌then◌else◌, nat_lt, nat_le, List, [], ◌∷◌, length, codes}
+use Rattle.std.specs.Prelude.{Option, Some, None, Result, Ok, Err, option_and_then}
 use Rattle.std.specs.List.{list_all, list_any}
 use Rattle.std.specs.Str.{bytes_eq}
 use Rattle.vnff_base.specs.Hex.{hex_bytes}
@@ -12,6 +13,7 @@ use Rattle.admin_wire.specs.declared.command.Command.TheVariants.{Create}
 use Rattle.admin_wire.specs.declared.command.ObjData.TheVariants.{Classifier}
 use Rattle.admin_wire.specs.declared.command.RawList.TheVariants.{Good}
 use Rattle.admin_wire.specs.declared.error.WireErr.{WireErr}
+use Rattle.admin_wire.specs.declared.codes.TheConstants.{VIRTIO_ADMIN_CMD_RESOURCE_OBJ_CREATE}
 use Rattle.admin_wire.specs.Wire.{command_of, opcode_of}
 use Rattle.vnff_run.specs.Caps.{CapsParts, all_selectors}
 use Rattle.vnff_run.specs.States.{all_opcodes, is_opcode_in}
@@ -119,7 +121,7 @@ selects_further _ = false
 -- an opcode that is a create's, or that the device hasn't
 abbrev pub is_built_opcode : Option ℕ → Bool
 is_built_opcode None = true
-is_built_opcode (Some opcode) = (opcode == 10) || not (is_opcode_in all_opcodes opcode)
+is_built_opcode (Some opcode) = (opcode == VIRTIO_ADMIN_CMD_RESOURCE_OBJ_CREATE) || not (is_opcode_in all_opcodes opcode)
 
 -- The program can carry the command out: it has no opcode, or that of a create, or one that the device hasn't; and it
 -- creates no classifier of further headers.

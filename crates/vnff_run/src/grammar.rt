@@ -1,15 +1,20 @@
 //! Scripts, read from their text.
 
-ghost use Rattle.std.specs.Prelude.{◌≡◌, ◌<◌, ◌≤◌, ◌==◌, ℕ, List, [], length, not, IfSome, MatchOption, None, slice_index_or};
+ghost use Rattle.std.specs.Prelude.{◌≡◌, ◌<◌, ◌≤◌, ◌==◌, ℕ, List, [], length, slice_index_or};
+ghost use Rattle.std.specs.Prelude.{not, None, IfSome, MatchOption};
 ghost use Rattle.std.specs.List.{list_all, list_any};
 ghost use Rattle.std.specs.Str.{bytes_eq};
 ghost use Rattle.ff_headers.specs.Kinds.{kind_code};
 ghost use Rattle.vnff_base.specs.Lines.{words_of, word_lines};
 ghost use Rattle.vnff_run.specs.Endings.{IsReadAs, IsSpelled};
-ghost use Rattle.vnff_run.specs.Script.{admin_of, built_script_of, bytes_within, caps_of, device_of, frame_of, is_built, is_built_command, is_built_opcode, is_version, item_of, items_of, number_within, script_behind, script_of, script_of_lines, selects_further};
+ghost use Rattle.vnff_run.specs.Script.{admin_of, built_script_of, bytes_within, caps_of, device_of};
+ghost use Rattle.vnff_run.specs.Script.{frame_of, is_built, is_built_command, is_built_opcode, is_version};
+ghost use Rattle.vnff_run.specs.Script.{item_of, items_of, number_within, script_behind, script_of};
+ghost use Rattle.vnff_run.specs.Script.{script_of_lines, selects_further};
 
 use crate::capabilities::DeviceCaps;
 use crate::opcodes::{ALL_OPCODES, is_opcode_in};
+use crate::program::FILE_LIMIT;
 use crate::script::{AdminLine, Item, Reason, Script, ScriptFault};
 use crate::start::Start;
 use admin_wire::{
@@ -28,7 +33,7 @@ const UNBUILT: ScriptFault = ScriptFault::Bad(0, Reason::Unbuilt);
 /// The script that the bytes spell, at most 67,108,864 of them. `Bad(0, Unbuilt)` comes exactly where they spell none that
 /// the program can run.
 pub fn read_script(alloc: Global, bytes: &[u8]) -> Result<Script, ScriptFault>
-    requires { length bytes.now ≤ 67108864 }
+    requires { length bytes.now ≤ FILE_LIMIT }
     ensures { IsReadAs result (built_script_of bytes.now) }
 {
     let script = spelled_script(alloc, bytes)?;

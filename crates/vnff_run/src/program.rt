@@ -1,13 +1,14 @@
 //! The program's call: words in, files read, a text written, and a status.
 
-ghost use Rattle.std.specs.Prelude.{◌≡◌, ◌≤◌, ◌⊎◌, ◌↔◌, Option, None, IfSome, IsSomeAnd, ℕ, map, take, length, string_bytes};
+ghost use Rattle.std.specs.Prelude.{◌≡◌, ◌≤◌, ◌⊎◌, ◌↔◌, ℕ, None, IfSome, IsSomeAnd};
+ghost use Rattle.std.specs.Prelude.{map, take, length, string_bytes};
 ghost use Rattle.std.specs.Option.{option_copied};
 ghost use Rattle.vnff_base.specs.Counts.{Rose};
 ghost use Rattle.vnff_base.specs.Outputs.{told_after};
-ghost use Rattle.vnff_run.specs.Outcomes.{outcome_of, of_script, script_name, refused_too_long, refused_unbuilt};
+ghost use Rattle.vnff_run.specs.Outcomes.{outcome_of, of_script, script_name};
 ghost use Rattle.vnff_run.specs.Replay.{lines_of, replay_text};
 ghost use Rattle.vnff_run.specs.Script.{built_script_of};
-ghost use Rattle.vnff_run.specs.Endings.{Ends, EndsFile, WroteFront};
+ghost use Rattle.vnff_run.specs.Endings.{Ends, EndsFile};
 
 use crate::device::Device;
 use crate::grammar::read_script;
@@ -34,7 +35,9 @@ const NO_MEMORY: u8 = 5;
 
 /// Writes the line of a refusal.
 fn refuse<O: Out>(out: &mut O, line: &[u8]) -> u8
-    ensures { Ends (record { status = 1; text = line.now }) (record { old = O.told out.old; new = O.told out.new; before = O.faults out.old; now = O.faults out.new }) result }
+    ensures { Ends (record { status = 1; text = line.now })
+        (record { old = O.told out.old; new = O.told out.new; before = O.faults out.old; now = O.faults out.new })
+        result }
 {
     match out.put(line) {
         Ok(()) => REFUSED,
@@ -44,7 +47,9 @@ fn refuse<O: Out>(out: &mut O, line: &[u8]) -> u8
 
 /// Does what the items ask for, and writes a line for each.
 fn run_items<O: Out>(device: &mut Device, items: &[Item], out: &mut O) -> u8
-    ensures { Ends (record { status = 0; text = lines_of device.old items.now }) (record { old = O.told out.old; new = O.told out.new; before = O.faults out.old; now = O.faults out.new }) result }
+    ensures { Ends (record { status = 0; text = lines_of device.old items.now })
+        (record { old = O.told out.old; new = O.told out.new; before = O.faults out.old; now = O.faults out.new })
+        result }
 {
     match put_items(device, items, out) {
         Ok(()) => DONE,
@@ -54,7 +59,9 @@ fn run_items<O: Out>(device: &mut Device, items: &[Item], out: &mut O) -> u8
 
 /// Replays a script.
 fn replay<O: Out>(alloc: Global, script: Script, out: &mut O) -> u8
-    ensures { Ends (record { status = 0; text = replay_text script }) (record { old = O.told out.old; new = O.told out.new; before = O.faults out.old; now = O.faults out.new }) result }
+    ensures { Ends (record { status = 0; text = replay_text script })
+        (record { old = O.told out.old; new = O.told out.new; before = O.faults out.old; now = O.faults out.new })
+        result }
 {
     let Script { caps, start, items } = script;
     match Device::new(alloc, caps, start) {
@@ -66,7 +73,9 @@ fn replay<O: Out>(alloc: Global, script: Script, out: &mut O) -> u8
 /// Replays what may be a script, or refuses it.
 fn replay_text_of<O: Out>(alloc: Global, bytes: &[u8], out: &mut O) -> u8
     requires { length bytes.now ≤ FILE_LIMIT }
-    ensures { Ends (of_script (built_script_of bytes.now)) (record { old = O.told out.old; new = O.told out.new; before = O.faults out.old; now = O.faults out.new }) result }
+    ensures { Ends (of_script (built_script_of bytes.now))
+        (record { old = O.told out.old; new = O.told out.new; before = O.faults out.old; now = O.faults out.new })
+        result }
 {
     match read_script(alloc, bytes) {
         Ok(script) => replay(alloc, script, out),
@@ -78,7 +87,8 @@ fn replay_text_of<O: Out>(alloc: Global, bytes: &[u8], out: &mut O) -> u8
 /// Replays the script in a file.
 fn replay_file<S: Shelf, O: Out>(alloc: Global, name: &str, shelf: &mut S, out: &mut O) -> u8
     ensures { EndsFile (S.files shelf.old) name.now (S.faults shelf.old) (S.faults shelf.new)
-        (record { old = O.told out.old; new = O.told out.new; before = O.faults out.old; now = O.faults out.new }) result }
+        (record { old = O.told out.old; new = O.told out.new; before = O.faults out.old; now = O.faults out.new })
+        result }
 {
     match read_all(alloc, shelf, name, FILE_LIMIT) {
         Ok(bytes) => replay_text_of(alloc, bytes.as_slice(), out),
@@ -116,12 +126,14 @@ pub fn plain<S: Shelf, O: Out>(alloc: Global, words: &[String], shelf: &mut S, o
     // What is to be refused is refused, unless a read or a write failed, or memory ran out.
     ensures refused { IfSome (S.files shelf.old) (λ files.
         let end = outcome_of (map string_bytes words.now) files in
-        end.status ≡ 1 → (result ≡ 1) ⊎ (result ≡ 5) ⊎ Rose (S.faults shelf.old) (S.faults shelf.new) ⊎ Rose (O.faults out.old) (O.faults out.new)) }
+        end.status ≡ 1 → (result ≡ 1) ⊎ (result ≡ 5)
+        ⊎ Rose (S.faults shelf.old) (S.faults shelf.new) ⊎ Rose (O.faults out.old) (O.faults out.new)) }
 
     // What is to be replayed is replayed, with the same exceptions.
     ensures complete { IfSome (S.files shelf.old) (λ files.
         let end = outcome_of (map string_bytes words.now) files in
-        end.status ≡ 0 → (result ≡ 0) ⊎ (result ≡ 5) ⊎ Rose (S.faults shelf.old) (S.faults shelf.new) ⊎ Rose (O.faults out.old) (O.faults out.new)) }
+        end.status ≡ 0 → (result ≡ 0) ⊎ (result ≡ 5)
+        ⊎ Rose (S.faults shelf.old) (S.faults shelf.new) ⊎ Rose (O.faults out.old) (O.faults out.new)) }
 
     // 3 is a failure of the shelf, or a file that isn't there, and then nothing was written.
     ensures read { result ≡ 3 → Rose (S.faults shelf.old) (S.faults shelf.new)
