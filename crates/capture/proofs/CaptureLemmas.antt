@@ -1,0 +1,23 @@
+-- What reading a whole capture gives, by its header.
+use Rattle.std.proofs.Common.{◌≡◌, ℕ, List, drop, Result, Ok, Err, refl}
+use Rattle.capture.specs.declared.fault.CaptureErr.{CaptureErr}
+use Rattle.capture.specs.declared.header.CaptureHeader.{CaptureHeader}
+use Rattle.capture.specs.FileHeaders.{header_of}
+use Rattle.capture.specs.Records.{seen, records_of}
+use Rattle.capture.specs.Captures.{capture_of}
+use Rattle.capture.proofs.RecordLemmas.{front-none}
+
+pub capture_of-header : (bytes : List ℕ) (header : CaptureHeader) → header_of bytes ≡ Ok header → capture_of bytes ≡ records_of header.big 24 (drop 24 bytes)
+unfolding capture_of
+capture_of-header bytes header good = rw good refl
+
+pub capture_of-bad_header : (bytes : List ℕ) (fault : CaptureErr) → header_of bytes ≡ Err fault → capture_of bytes ≡ Err fault
+unfolding capture_of
+capture_of-bad_header bytes fault bad = rw bad refl
+
+-- a fault, also of what is seen of a value
+pub seen-err : {A B : Type 0} (view : A → B) (read : Result A CaptureErr) (fault : CaptureErr) → Err fault ≡ seen view read → read ≡ Err fault
+seen-err view (Ok x) fault same = absurd (cc)
+seen-err view (Err e) fault same = cc
+
+pub ruleset captures = (capture_of-header, capture_of-bad_header, seen-err, front-none)

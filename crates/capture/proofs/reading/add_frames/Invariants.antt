@@ -1,0 +1,14 @@
+use Rattle.std.proofs.Common.{◌≡◌, ◌-◌, ◌≤◌, length, drop}
+use Rattle.capture.specs.Records.{with_front, records_of}
+use Rattle.capture.proofs.reading.add_frames.Given as goal
+
+abbrev pub invariant-loop-frame : goal.invariant-loop-frame
+invariant-loop-frame l = record {
+  from : 24 ≤ l.at;
+  within : l.at ≤ length l.bytes;
+  read : with_front l.frames (records_of l.header.big l.at (drop l.at l.bytes))
+      ≡ with_front l.fn.frames (records_of l.header.big 24 (drop 24 l.bytes));
+}
+
+abbrev pub decreases-loop-frame : goal.decreases-loop-frame
+decreases-loop-frame l = length l.bytes - l.at

@@ -1,0 +1,4 @@
+pub mod FileHeaders
+pub mod Records
+pub mod Captures
+pub mod Pieces

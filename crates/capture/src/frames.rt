@@ -1,0 +1,85 @@
+//! The frames of a capture, kept in two vectors: the bytes of all frames, and the places at which they begin and end.
+
+ghost use Rattle.std.specs.Prelude.{◌≡◌, ◌≤◌, ◌==◌, ◌↔◌, List, ℕ, [], ◌∷◌, ◌++◌, length, slice_get, IsNone, IfOk, OnOk, OnErr};
+ghost use Rattle.std.specs.Option.{option_copied};
+
+use std::alloc::{AllocError, Global};
+use std::marker::Model;
+
+/// Frames in order, which contracts see as a list of byte lists. All frames stand in one vector, with 8 bytes for each frame
+/// beside it.
+#[derive(Debug, Drop)]
+pub struct Frames {
+    bytes: Vec<u8>,
+    places: Vec<usize>,
+}
+
+impl Model for Frames {
+    ghost use Rattle.std.specs.Prelude.{List, ℕ};
+    ghost use Rattle.capture.specs.Pieces.{pieces, ArePlaces};
+
+    ghost Value = { List (List ℕ) };
+
+    ghost view = { λ f. pieces f.bytes.items f.places.items };
+
+    ghost invariant = { λ f. ArePlaces f.bytes.items f.places.items };
+}
+
+impl Frames {
+    /// No frame, and room for that many frames with that many bytes in all.
+    pub(crate) fn with_room(
+        alloc: Global,
+        frames: usize,
+        bytes: usize,
+    ) -> Result<Frames, AllocError>
+        ensures { IfOk result (λ made. made ≡ []) }
+    {
+        let mut places = Vec::with_capacity(alloc, frames.saturating_add(1))?;
+        places.push(0)?;
+        Ok(Frames {
+            bytes: Vec::with_capacity(alloc, bytes)?,
+            places,
+        })
+    }
+
+    /// Appends a frame.
+    #[tactic(auto, using(crate::proofs::PieceLemmas::pieces_push))]
+    pub(crate) fn push(&mut self, frame: &[u8]) -> Result<(), AllocError>
+        ensures ok { OnOk result (self.new ≡ self.old ++ frame.now ∷ []) }
+        ensures err { OnErr result (self.new ≡ self.old) }
+    {
+        self.places.reserve(1)?;
+        self.bytes.extend_from_slice(frame)?;
+        self.places.push_reserved(self.bytes.len());
+        Ok(())
+    }
+
+    /// The number of frames.
+    #[tactic(auto, using(crate::proofs::PieceLemmas::piece_facts))]
+    pub fn len(&self) -> usize
+        ensures { result ≡ length self.now }
+    {
+        self.places.len() - 1
+    }
+
+    /// Whether there is no frame.
+    pub fn is_empty(&self) -> bool
+        ensures { result ≡ (length self.now == 0) }
+    {
+        self.len() == 0
+    }
+
+    /// The frame at a place, counted from 0.
+    #[tactic(auto, using(crate::proofs::PieceLemmas::piece_facts))]
+    pub fn at(&self, place: usize) -> Option<&[u8]>
+        ensures item { option_copied result ≡ slice_get self.now place }
+        ensures past { IsNone result ↔ (length self.now ≤ place) }
+    {
+        if place >= self.len() {
+            return None;
+        }
+        let from = self.places[place];
+        let to = self.places[place + 1];
+        Some(&self.bytes[from..to])
+    }
+}

@@ -1,0 +1,24 @@
+//! Laws of the definitions. Each call does nothing: its contract is the law.
+
+ghost use Rattle.std.specs.Prelude.{◌≡◌, ◌↔◌, ◌≤◌, ◌⊎◌, ℕ, List, length, All, Ok, Err};
+ghost use Rattle.capture.specs.declared.fault.CaptureErr.{CaptureErr};
+ghost use Rattle.capture.specs.FileHeaders.{header_of};
+ghost use Rattle.capture.specs.Captures.{capture_of, capture_text, IsCapture, IsCaptureBad, IsRecordFault};
+
+/// A list of bytes reads as frames exactly where it is a good header followed by one record for each frame.
+pub fn captures_are_a_header_and_records()
+    ensures { (bytes : List ℕ) (frames : List (List ℕ)) → (capture_of bytes ≡ Ok frames ↔ IsCapture bytes frames) }
+{}
+
+/// A list of bytes that doesn't read as frames has a fault in its header, or in the record at some offset, and then the
+/// bytes before that record are a capture. The offset that a fault carries is that of the record.
+pub fn a_fault_is_the_first()
+    ensures { (bytes : List ℕ) (fault : CaptureErr) → IsCaptureBad bytes fault
+        → ((header_of bytes ≡ Err fault) ⊎ IsRecordFault bytes fault) }
+{}
+
+/// What is written of frames is a capture of these frames.
+pub fn what_is_written_is_a_capture()
+    ensures { (frames : List (List ℕ)) → All (λ frame. length frame ≤ 262144) frames
+        → IsCapture (capture_text frames) frames }
+{}

@@ -1,0 +1,108 @@
+//! The cases of the format's profile, as one table; and what is written, byte by byte.
+
+use crate::{
+    CaptureErr, CaptureHeader, Frames, FramesErr, next_frame, read_frames, read_header,
+    write_frame, write_header,
+};
+use std::alloc::Global;
+use std::process::Abort;
+use std::test::Fail;
+use vnff_base::MemOut;
+
+const FRAME: [u8; 14] = [255, 255, 255, 255, 255, 255, 2, 0, 0, 0, 0, 1, 8, 0];
+
+/// A capture of the frame: little endian, microseconds.
+const CAPTURE: [u8; 54] = [
+    0xd4, 0xc3, 0xb2, 0xa1, 2, 0, 4, 0, 0, 0, 0, 0, 0, 0, 0, 0, 0, 0, 4, 0, 1, 0, 0, 0, // header
+    0, 0, 0, 0, 0, 0, 0, 0, 14, 0, 0, 0, 14, 0, 0, 0, // record
+    255, 255, 255, 255, 255, 255, 2, 0, 0, 0, 0, 1, 8, 0,
+];
+
+/// The same in big endian, with nanoseconds.
+const BIG_NANOS: [u8; 54] = [
+    0xa1, 0xb2, 0x3c, 0x4d, 0, 2, 0, 4, 0, 0, 0, 0, 0, 0, 0, 0, 0, 4, 0, 0, 0, 0, 0, 1, // header
+    0, 0, 0, 0, 0, 0, 0, 0, 0, 0, 0, 14, 0, 0, 0, 14, // record
+    255, 255, 255, 255, 255, 255, 2, 0, 0, 0, 0, 1, 8, 0,
+];
+
+/// The frames that were read, or the fault that no frame was read for.
+fn check(rt: &impl Abort, read: Result<Frames, FramesErr>, wanted: Result<usize, FramesErr>) {
+    match read {
+        Err(err) => assert_eq!(rt; Err(err), wanted),
+        Ok(frames) => {
+            assert_eq!(rt; Ok(frames.len()), wanted);
+            assert_eq!(rt; frames.is_empty(), frames.len() == 0);
+            for place in 0..frames.len() {
+                assert!(rt; frames.at(place) == Some(FRAME.as_slice()));
+            }
+            assert!(rt; frames.at(frames.len()).is_none());
+        }
+    }
+}
+
+#[test]
+fn a_capture_cut_at_each_length(rt: HostRuntime) -> Result<(), Fail> {
+    for size in 0..55 {
+        let wanted = match size {
+            0..24 => Err(FramesErr::Bad(CaptureErr::Truncated(0))),
+            24 => Ok(0),
+            25..54 => Err(FramesErr::Bad(CaptureErr::Truncated(24))),
+            _ => Ok(1),
+        };
+        check(&rt, read_frames(rt.alloc(), &CAPTURE[..size]), wanted);
+        check(&rt, read_frames(rt.alloc(), &BIG_NANOS[..size]), wanted);
+    }
+    Ok(())
+}
+
+/// The first capture with one byte changed.
+fn changed(alloc: Global, place: usize, byte: u8) -> Result<Frames, FramesErr> {
+    let mut bytes = CAPTURE;
+    if place < bytes.len() {
+        bytes[place] = byte;
+    }
+    read_frames(alloc, &bytes)
+}
+
+#[test]
+fn faults_in_their_order(rt: HostRuntime) -> Result<(), Fail> {
+    // A byte's place and what stands there, and what is answered.
+    let table = [
+        (0, 0xd5, Err(FramesErr::Bad(CaptureErr::Magic))),
+        (4, 3, Err(FramesErr::Bad(CaptureErr::Version))),
+        (6, 3, Err(FramesErr::Bad(CaptureErr::Version))),
+        (20, 2, Err(FramesErr::Bad(CaptureErr::LinkType))),
+        (22, 9, Ok(1)),
+        (34, 4, Err(FramesErr::Bad(CaptureErr::TooLong(24)))),
+        (32, 15, Err(FramesErr::Bad(CaptureErr::Truncated(24)))),
+        (36, 99, Ok(1)),
+    ];
+    for (place, byte, wanted) in table {
+        check(&rt, changed(rt.alloc(), place, byte), wanted);
+    }
+    Ok(())
+}
+
+#[test]
+fn one_record_at_a_time(rt: HostRuntime) -> Result<(), Fail> {
+    let header = read_header(&BIG_NANOS)?;
+    let wanted = CaptureHeader {
+        big: true,
+        nanos: true,
+    };
+    assert_eq!(rt; header, wanted);
+    assert!(rt; next_frame(&BIG_NANOS, &header, 24)? == Some(FRAME.as_slice()));
+    assert!(rt; next_frame(&BIG_NANOS, &header, 54)?.is_none());
+    Ok(())
+}
+
+#[test]
+fn what_is_written(rt: HostRuntime) -> Result<(), Fail> {
+    let mut out = MemOut::new(rt.alloc(), 54)?;
+    write_header(&mut out).ok().ok_or("header")?;
+    write_frame(&mut out, &FRAME).ok().ok_or("frame")?;
+    assert_eq!(rt; out.bytes(), CAPTURE.as_slice());
+    assert!(rt; write_frame(&mut out, &[]).is_err());
+    assert_eq!(rt; out.bytes().len(), 54);
+    Ok(())
+}
