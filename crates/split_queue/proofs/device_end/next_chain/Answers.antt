@@ -1,0 +1,6 @@
+use Rattle.std.proofs.Common.{arith}
+use Rattle.split_queue.proofs.WalkLaws.{along}
+use Rattle.split_queue.proofs.device_end.next_chain.Goals as goal
+
+pub returns-in-Ok-clause-walk : goal.returns-in-Ok-clause-walk
+returns-in-Ok-clause-walk c = along c.args.mem.now c.args.place c.le16-head.result c.in-Ok.chain (omega arith) c.in-Ok.ensures

@@ -1,0 +1,54 @@
+-- Where a split virtqueue may lie in a memory (Virtio 1.4 draft, "Split Virtqueues"; that the areas lie apart is this
+-- project's own). Sums are those of numbers and never wrap.
+use Rattle.std.specs.Prelude.{ℕ, ◌+◌, ◌%◌, ◌^◌, ◌<◌, ◌≤◌, ◌==◌, ◌&&◌, ◌||◌, Bool, not, nat_lt, nat_le, if◌then◌else◌, Option, Some, None}
+use Rattle.std.specs.Int.{is_power_of_two}
+use Rattle.split_queue.specs.Layout.{table_bytes, available_bytes, used_bytes}
+use Rattle.split_queue.specs.declared.place.Place.{Place}
+use Rattle.split_queue.specs.declared.setup.Area.{Area}
+use Rattle.split_queue.specs.declared.setup.SetupErr.{SetupErr}
+use Rattle.split_queue.specs.declared.setup.SetupErr.TheVariants as setup
+
+-- the descriptor table, the available ring and the used ring
+abbrev pub table_area : Place → Area
+table_area place = record { start = place.desc; len = table_bytes place.size }
+
+abbrev pub available_area : Place → Area
+available_area place = record { start = place.avail; len = available_bytes place.size }
+
+abbrev pub used_area : Place → Area
+used_area place = record { start = place.used; len = used_bytes place.size }
+
+-- the area lies in a memory of so many bytes
+abbrev pub lies_in : Area → ℕ → Bool
+lies_in area mem_len = nat_le (area.start + area.len) mem_len
+
+-- the areas share a byte; none of them is empty
+abbrev pub meets : Area → Area → Bool
+meets a b = nat_lt a.start (b.start + b.len) && nat_lt b.start (a.start + a.len)
+
+-- the table stands at a multiple of 16, the available ring at one of 2, the used ring at one of 4
+abbrev pub is_aligned : Place → Bool
+is_aligned place = (place.desc % 16 == 0) && (place.avail % 2 == 0) && (place.used % 4 == 0)
+
+abbrev pub all_lie_in : Place → ℕ → Bool
+all_lie_in place mem_len = lies_in (table_area place) mem_len && lies_in (available_area place) mem_len && lies_in (used_area place) mem_len
+
+abbrev pub some_meet : Place → Bool
+some_meet place = meets (table_area place) (available_area place) || meets (table_area place) (used_area place) || meets (available_area place) (used_area place)
+
+-- the first reason why the place can't hold a queue in a memory of so many bytes. A size has 16 bits, so a power of two
+-- is one from 1 to 32,768.
+unfoldable pub setup_fault : Place → ℕ → Option SetupErr
+setup_fault place mem_len =
+    if not (is_power_of_two place.size) then Some setup.Size
+    else (if not (is_aligned place) then Some setup.Align
+    else (if not (all_lie_in place mem_len) then Some setup.Area
+    else (if some_meet place then Some setup.Overlap else None)))
+
+-- what every queue that was set up knows of its place: each area lies in the memory, and they lie apart
+pub record IsPlaced (place : Place) (mem_len : ℕ) : Type 0 where
+  pub some : 0 < place.size
+  pub table : place.desc + table_bytes place.size ≤ mem_len
+  pub available : place.avail + available_bytes place.size ≤ mem_len
+  pub used : place.used + used_bytes place.size ≤ mem_len
+  pub short : mem_len < 2 ^ 64

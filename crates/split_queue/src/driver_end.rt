@@ -1,0 +1,213 @@
+//! The driver's end of a queue.
+ghost use Rattle.std.specs.Prelude.{◌≡◌, ◌+◌, ◌^◌, ◌<◌, ◌≤◌, Some, None, length, replicate, reverse, slice_index, IfOk, IfErr, IfSome, OnOk, OnErr, MatchOption};
+ghost use Rattle.split_queue.specs.Setup.{setup_fault, IsPlaced};
+ghost use Rattle.split_queue.specs.Pools.{owner_of, out_count};
+ghost use Rattle.split_queue.specs.Drivers.{ClearsArea, ClearsRings, ChangesOnlyFree, ChangesOnlySlot, ChangesOnlyPosted, given, link, with_descriptors, with_available, post_answer, posted, after_given, after_post, taken, after_take};
+ghost use Rattle.split_queue.specs.declared.setup.SetupErr.{SetupErr};
+
+use crate::chain::Piece;
+use crate::descriptor::{Descriptor, NEXT, WRITE, le16, le32, put_le16};
+use crate::driver_err::{DriverErr, PostErr, TakeErr};
+use crate::place::Place;
+use crate::pool::Pool;
+use crate::setup::setup_fault;
+use guest_mem::GuestMem;
+use std::alloc::Global;
+use std::marker::Model;
+
+/// Posts chains for a device, and takes them back.
+#[derive(Debug, Drop)]
+pub struct DriverEnd {
+    place: Place,
+    mem_len: u64,
+    // the available index at which the next chain goes
+    next: u16,
+    // the used index at which the next element stands
+    used: u16,
+    pool: Pool,
+}
+
+impl Model for DriverEnd {
+    ghost use Rattle.split_queue.specs.Drivers.{DriverState, IsDriver};
+
+    ghost Value = { DriverState };
+
+    ghost view = { λ e. record { place = e.place; mem_len = e.mem_len; next = e.next; used = e.used; pool = e.pool } };
+
+    ghost invariant = { λ e. IsDriver e.place e.mem_len e.pool };
+}
+
+impl DriverEnd {
+    /// The end of a fresh queue at the place. It clears both rings, with their event fields, and starts at index 0.
+    pub fn new(alloc: Global, place: Place, mem: &mut GuestMem) -> Result<DriverEnd, DriverErr>
+        ensures setup { IfSome (setup_fault place (length mem.old)) (λ fault. result ≡ Err (DriverErr.Setup fault)) }
+        ensures cause { IfErr result (λ err. (fault : SetupErr) → err ≡ DriverErr.Setup fault → setup_fault place (length mem.old) ≡ Some fault) }
+        ensures ok { IfOk result (λ end. (end.place ≡ place) × (end.mem_len ≡ length mem.new) × (end.next ≡ 0) × (end.used ≡ 0)) }
+        ensures free { IfOk result (λ end. (end.pool.owners ≡ replicate place.size None) × (length end.pool.free ≡ place.size)) }
+        ensures memory { OnOk result (ClearsRings mem.old mem.new place) }
+        ensures err { OnErr result (mem.new ≡ mem.old) }
+    {
+        let mem_len = mem.len();
+        if let Some(fault) = setup_fault(place, mem_len) {
+            return Err(DriverErr::Setup(fault));
+        }
+        let Ok(pool) = Pool::new(alloc, place.size) else {
+            return Err(DriverErr::Memory);
+        };
+        clear_rings(mem, place);
+        Ok(DriverEnd {
+            place,
+            mem_len,
+            next: 0,
+            used: 0,
+            pool,
+        })
+    }
+
+    /// Makes a chain available: the first `readable` pieces are for the device to read, the others for it to write. It gives
+    /// the chain's head, and refuses where fewer descriptors are free than there are pieces.
+    pub fn post(
+        &mut self,
+        mem: &mut GuestMem,
+        pieces: &[Piece],
+        readable: usize,
+    ) -> Result<u16, PostErr>
+        requires some { 0 < length pieces.now }
+        requires within { readable ≤ length pieces.now }
+        requires memory { length mem.old ≡ self.old.mem_len }
+        ensures answer { result ≡ post_answer self.old (length pieces.now) }
+        ensures counted { out_count self.old.pool.owners + length self.old.pool.free ≡ self.old.place.size }
+        ensures was_free { IfOk result (λ head. (head < self.old.place.size) × (owner_of self.old.pool.owners head ≡ None)) }
+        ensures memory { OnOk result (mem.new ≡ posted mem.old self.old pieces.now readable) }
+        ensures others { OnOk result (ChangesOnlyPosted mem.old mem.new self.old.place self.old.pool.owners self.old.next) }
+        ensures state { OnOk result (self.new ≡ after_post self.old (length pieces.now)) }
+        ensures err { OnErr result (self.new ≡ self.old) }
+        ensures err_memory { OnErr result (mem.new ≡ mem.old) }
+    {
+        let free = self.pool.free_len();
+        if free < pieces.len() {
+            return Err(PostErr::Full(free as u16));
+        }
+        let head = self.pool.first();
+        put_chain(mem, self.place, &mut self.pool, head, pieces, readable);
+        put_available(mem, self.place, self.next, head);
+        self.next = self.next.wrapping_add(1);
+        Ok(head)
+    }
+
+    /// Takes the next chain back that the device gave back: its head, and how many bytes were written into it. Its
+    /// descriptors are free from then on.
+    pub fn take(&mut self, mem: &GuestMem) -> Result<Option<(u16, u32)>, TakeErr>
+        requires { length mem.now ≡ self.old.mem_len }
+        ensures answer { result ≡ taken mem.now self.old.place self.old.pool self.old.used }
+        ensures ok { IfOk result (λ element. MatchOption element (self.new ≡ self.old) (λ e. self.new ≡ after_take self.old e.0)) }
+        ensures err { OnErr result (self.new ≡ self.old) }
+    {
+        let element = next_used(mem, self.place, &self.pool, self.used)?;
+        if let Some((head, _)) = element {
+            self.pool.release(head);
+            self.used = self.used.wrapping_add(1);
+        }
+        Ok(element)
+    }
+}
+
+/// What stands in the used ring at an index.
+#[tactic(auto, unfolding(crate::specs::Drivers::taken))]
+fn next_used(
+    mem: &GuestMem,
+    place: Place,
+    pool: &Pool,
+    index: u16,
+) -> Result<Option<(u16, u32)>, TakeErr>
+    requires { IsPlaced place (length mem.now) }
+    ensures { result ≡ taken mem.now place pool.now index }
+{
+    let idx = le16(mem, place.used + 2);
+    if idx == index {
+        return Ok(None);
+    }
+    if idx.wrapping_sub(index) > place.size {
+        return Err(TakeErr::IdxJump(idx));
+    }
+    let slot = index % place.size;
+    let element = place.used + 4 + 8 * slot as u64;
+    let id = le32(mem, element);
+    match pool.head_of(id) {
+        Some(head) => Ok(Some((head, le32(mem, element + 4)))),
+        None => Err(TakeErr::BadId(id)),
+    }
+}
+
+/// Writes zeros over both rings.
+fn clear_rings(mem: &mut GuestMem, place: Place)
+    requires { IsPlaced place (length mem.old) }
+    ensures { ClearsRings mem.old mem.new place }
+{
+    let size = place.size as u64;
+    clear(mem, place.avail, 6 + 2 * size);
+    clear(mem, place.used, 6 + 8 * size);
+}
+
+/// Writes zeros over so many bytes.
+fn clear(mem: &mut GuestMem, start: u64, count: u64)
+    requires within { start + count ≤ length mem.old }
+    requires short { start + count < 2 ^ 64 }
+    ensures { ClearsArea mem.old mem.new start count }
+{
+    for cleared in 0..count {
+        mem.write(start + cleared, &[0]).unwrap();
+    }
+}
+
+/// Writes the descriptors of a chain, which are out from then on.
+fn put_chain(
+    mem: &mut GuestMem,
+    place: Place,
+    pool: &mut Pool,
+    head: u16,
+    pieces: &[Piece],
+    readable: usize,
+)
+    requires placed { IsPlaced place (length mem.old) }
+    requires sized { length pool.old.owners ≡ place.size }
+    requires enough { length pieces.now ≤ length pool.old.free }
+    requires first { head ≡ slice_index (reverse pool.old.free) 0 }
+    ensures memory { mem.new ≡ with_descriptors mem.old place (given (length pieces.now) pool.old.free) pieces.now readable }
+    ensures others { ChangesOnlyFree mem.old mem.new place pool.old.owners }
+    ensures pool { pool.new ≡ after_given pool.old (length pieces.now) }
+    ensures sized { length pool.new.owners ≡ place.size }
+{
+    for (i, piece) in pieces.iter().enumerate() {
+        let number = pool.claim(head);
+        let link = make_link(*piece, readable.saturating_sub(i), &pieces[i + 1..], pool);
+        link.put(mem, place, number);
+    }
+}
+
+/// The descriptor of a piece, of which on so many are readable, where these follow it.
+fn make_link(piece: Piece, readable: usize, later: &[Piece], pool: &Pool) -> Descriptor
+    requires { length later.now ≤ length pool.now.free }
+    ensures { result ≡ link piece readable later.now (given (length later.now) pool.now.free) }
+{
+    let last = later.is_empty();
+    let direction = if readable == 0 { WRITE } else { 0 };
+    Descriptor {
+        addr: piece.addr,
+        len: piece.len,
+        flags: if last { direction } else { NEXT + direction },
+        next: if last { 0 } else { pool.first() },
+    }
+}
+
+/// Writes a head into the available ring at an index, and then the index after it.
+#[tactic(auto, unfolding(crate::specs::Drivers::with_available))]
+fn put_available(mem: &mut GuestMem, place: Place, index: u16, head: u16)
+    requires { IsPlaced place (length mem.old) }
+    ensures memory { mem.new ≡ with_available mem.old place index head }
+    ensures others { ChangesOnlySlot mem.old mem.new place index }
+{
+    let slot = index % place.size;
+    put_le16(mem, place.avail + 4 + 2 * slot as u64, head);
+    put_le16(mem, place.avail + 2, index.wrapping_add(1));
+}

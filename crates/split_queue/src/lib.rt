@@ -1,0 +1,36 @@
+//! Both ends of a split virtqueue over guest memory.
+//!
+//! The layout is that of the Virtio 1.4 draft ("Split Virtqueues"): a table of descriptors, the ring in which the driver
+//! makes chains available, and the ring in which the device gives them back. The event index is left out, so neither end
+//! looks at the event fields. Which faults of a ring a device reports, and their order, are this project's own.
+//!
+//! [`DeviceEnd::pop`] promises the chain of the layout, or its first fault, whatever bytes a hostile guest wrote: a chain
+//! that loops, leaves the memory or is too long is refused, and the end is then as it was. [`DeviceEnd::push_used`] writes
+//! one element and the index. [`DriverEnd::post`] writes the descriptors of a chain, its head and the available index, and
+//! nothing else; [`DriverEnd::take`] takes back what the device gave back. No call but [`DriverEnd::new`] takes memory.
+//!
+//! The modules, lowest first: `place` (where a queue lies), `setup` (whether it may lie there), `descriptor`, `chain`
+//! (what a device gets), `walk` (from a head to a chain), `device_end`; `pool` (which descriptors are free), `driver_err`,
+//! `driver_end`. The definitions stand in specs/: `Layout`, `Setup`, `Chains` (a chain or its first fault), `Walks` (what the
+//! walk is, in its own words), `Scatter`, `Rings`, `Pools`, `Drivers`.
+#![tactic(auto)]
+
+mod chain;
+mod descriptor;
+mod device_end;
+mod driver_end;
+mod driver_err;
+mod place;
+mod pool;
+mod setup;
+#[cfg(test)]
+mod tests;
+mod walk;
+
+pub use chain::{Chain, Piece};
+pub use device_end::DeviceEnd;
+pub use driver_end::DriverEnd;
+pub use driver_err::{DriverErr, PostErr, TakeErr};
+pub use place::Place;
+pub use setup::SetupErr;
+pub use walk::RingErr;

@@ -1,0 +1,116 @@
+//! Whether a queue may lie at a place.
+ghost use Rattle.std.specs.Prelude.{◌≡◌, ◌+◌, ◌^◌, ◌<◌, IfNone};
+ghost use Rattle.split_queue.specs.Layout.{table_bytes, available_bytes, used_bytes};
+ghost use Rattle.split_queue.specs.Setup.{table_area, available_area, used_area, lies_in, meets, is_aligned, all_lie_in, some_meet, setup_fault, IsPlaced};
+
+use crate::place::Place;
+
+/// Why a queue can't be set up. The first that holds is given.
+#[derive(Clone, Copy, Debug, PartialEq, Eq)]
+pub enum SetupErr {
+    /// The size isn't a power of two from 1 to 32,768.
+    Size,
+    /// The descriptor table isn't at a multiple of 16, the available ring at one of 2, or the used ring at one of 4.
+    Align,
+    /// An area passes the memory's end.
+    Area,
+    /// Two areas share a byte.
+    Overlap,
+}
+
+/// A part of guest memory.
+#[derive(Clone, Copy)]
+pub(crate) struct Area {
+    pub(crate) start: u64,
+    pub(crate) len: u64,
+}
+
+impl Area {
+    fn lies_in(self, mem_len: u64) -> bool
+        ensures { result ≡ lies_in self mem_len }
+    {
+        self.len <= mem_len && self.start <= mem_len - self.len
+    }
+
+    fn meets(self, other: Area) -> bool
+        requires this_ends { self.start + self.len < 2 ^ 64 }
+        requires other_ends { other.start + other.len < 2 ^ 64 }
+        ensures { result ≡ meets self other }
+    {
+        self.start < other.start + other.len && other.start < self.start + self.len
+    }
+}
+
+/// The first reason why a queue can't lie at the place, in a memory of so many bytes.
+#[tactic(auto, unfolding(crate::specs::Setup::setup_fault))]
+pub(crate) fn setup_fault(place: Place, mem_len: u64) -> Option<SetupErr>
+    ensures value { result ≡ setup_fault place mem_len }
+    ensures placed { IfNone result (IsPlaced place mem_len) }
+{
+    if !place.size.is_power_of_two() {
+        return Some(SetupErr::Size);
+    }
+    if !is_aligned(place) {
+        return Some(SetupErr::Align);
+    }
+    if !all_lie_in(place, mem_len) {
+        return Some(SetupErr::Area);
+    }
+    if some_meet(place) {
+        return Some(SetupErr::Overlap);
+    }
+    None
+}
+
+fn is_aligned(place: Place) -> bool
+    ensures { result ≡ is_aligned place }
+{
+    place.desc % 16 == 0 && place.avail % 2 == 0 && place.used % 4 == 0
+}
+
+fn table_area(place: Place) -> Area
+    ensures { result ≡ table_area place }
+{
+    Area {
+        start: place.desc,
+        len: 16 * place.size as u64,
+    }
+}
+
+fn available_area(place: Place) -> Area
+    ensures { result ≡ available_area place }
+{
+    Area {
+        start: place.avail,
+        len: 6 + 2 * place.size as u64,
+    }
+}
+
+fn used_area(place: Place) -> Area
+    ensures { result ≡ used_area place }
+{
+    Area {
+        start: place.used,
+        len: 6 + 8 * place.size as u64,
+    }
+}
+
+fn all_lie_in(place: Place, mem_len: u64) -> bool
+    ensures { result ≡ all_lie_in place mem_len }
+{
+    table_area(place).lies_in(mem_len)
+        && available_area(place).lies_in(mem_len)
+        && used_area(place).lies_in(mem_len)
+}
+
+fn some_meet(place: Place) -> bool
+    requires table { place.desc + table_bytes place.size < 2 ^ 64 }
+    requires available { place.avail + available_bytes place.size < 2 ^ 64 }
+    requires used { place.used + used_bytes place.size < 2 ^ 64 }
+    ensures { result ≡ some_meet place }
+{
+    let table = table_area(place);
+    let available = available_area(place);
+    let used = used_area(place);
+    table.meets(available) || table.meets(used) || available.meets(used)
+}

@@ -1,0 +1,172 @@
+//! The walk from a head along the descriptors of its chain.
+ghost use Rattle.std.specs.Prelude.{◌≡◌, ◌+◌, ◌<◌, true, nat_le, length, IfSome, IfNone, IfOk, OnOk};
+ghost use Rattle.split_queue.specs.Layout.{descriptor_at, has_next};
+ghost use Rattle.split_queue.specs.Setup.{IsPlaced};
+ghost use Rattle.split_queue.specs.Chains.{with_buffer, buffer_fault, next_fault, next_of, chain_of, BufferFits};
+
+use crate::chain::{Chain, Piece};
+use crate::descriptor::Descriptor;
+use crate::place::Place;
+use arrayvec::ArrayVec;
+use guest_mem::GuestMem;
+
+/// The first fault of the available ring or of the chain in its next slot. The number is a descriptor's, if nothing else is said.
+#[derive(Clone, Copy, Debug, PartialEq, Eq)]
+pub enum RingErr {
+    /// The available index, which is more than the queue's size ahead.
+    IdxJump(u16),
+    /// The head, which isn't below the size.
+    BadHead(u16),
+    /// The descriptor stands for a table of descriptors.
+    Indirect(u16),
+    /// The descriptor is readable and stands after a writable one.
+    Order(u16),
+    /// The descriptor's buffer passes the memory's end.
+    Outside(u16),
+    /// The readable bytes with the descriptor's are more than 1,024.
+    TooLong(u16),
+    /// The descriptor's next isn't below the size.
+    BadNext(u16),
+    /// The descriptor's next stands in the chain already.
+    Loop(u16),
+    /// The descriptor is the 64th, and has a next.
+    TooMany(u16),
+}
+
+/// The chain of a head, or its first fault.
+pub(crate) fn chain_of(mem: &GuestMem, place: Place, head: u16) -> Result<Chain, RingErr>
+    requires placed { IsPlaced place (length mem.now) }
+    requires head { head < place.size }
+    ensures { result ≡ chain_of mem.now place head }
+{
+    let mut chain = Chain {
+        head,
+        readable: ArrayVec::new(),
+        writable: ArrayVec::new(),
+    };
+    let mut visited: ArrayVec<u16, 64> = ArrayVec::new();
+    visited.push(head);
+    let mut number = head;
+    for _ in 0..63usize {
+        match add_descriptor(mem, place, &visited, &mut chain, number)? {
+            None => return Ok(chain),
+            Some(next) => {
+                visited.push(next);
+                number = next;
+            }
+        }
+    }
+    match add_descriptor(mem, place, &visited, &mut chain, number)? {
+        None => Ok(chain),
+        Some(_) => Err(RingErr::TooMany(number)),
+    }
+}
+
+/// Adds a descriptor to its chain, and gives the number of the one that follows.
+#[tactic(auto, unfolding(crate::specs::Chains::next_of))]
+fn add_descriptor(
+    mem: &GuestMem,
+    place: Place,
+    visited: &ArrayVec<u16, 64>,
+    chain: &mut Chain,
+    number: u16,
+) -> Result<Option<u16>, RingErr>
+    requires placed { IsPlaced place (length mem.now) }
+    requires number { number < place.size }
+    requires room { length chain.old.writable.items < 64 }
+    ensures answer { result ≡ next_of mem.now place visited.now.items chain.old number }
+    ensures ok { OnOk result (chain.new ≡ with_buffer mem.now chain.old (descriptor_at mem.now place number)) }
+    ensures next { IfOk result (λ next. IfSome next (λ n. n < place.size)) }
+{
+    let descriptor = Descriptor::read(mem, place, number);
+    if let Some(fault) = buffer_fault(mem, chain, number, descriptor) {
+        return Err(fault);
+    }
+    if let Some(fault) = next_fault(place, visited, number, descriptor) {
+        return Err(fault);
+    }
+    add_buffer(mem, chain, descriptor);
+    Ok(if descriptor.has_next() {
+        Some(descriptor.next)
+    } else {
+        None
+    })
+}
+
+/// The first fault of a descriptor's buffer.
+#[tactic(auto, unfolding(crate::specs::Chains::buffer_fault))]
+fn buffer_fault(
+    mem: &GuestMem,
+    chain: &Chain,
+    number: u16,
+    descriptor: Descriptor,
+) -> Option<RingErr>
+    ensures value { result ≡ buffer_fault mem.now chain.now number descriptor }
+    ensures fits { IfNone result (BufferFits mem.now chain.now descriptor) }
+{
+    let readable = !descriptor.is_writable();
+    if descriptor.is_indirect() {
+        return Some(RingErr::Indirect(number));
+    }
+    if readable && !chain.writable.is_empty() {
+        return Some(RingErr::Order(number));
+    }
+    if !lies_in(mem, descriptor.addr, descriptor.len) {
+        return Some(RingErr::Outside(number));
+    }
+    if readable && chain.readable.as_slice().len() + descriptor.len as usize > 1024 {
+        return Some(RingErr::TooLong(number));
+    }
+    None
+}
+
+/// Whether a buffer lies in the memory. Its end may pass 2^64, so it isn't computed.
+fn lies_in(mem: &GuestMem, addr: u64, len: u32) -> bool
+    ensures { result ≡ nat_le (addr + len) (length mem.now) }
+{
+    let room = mem.len();
+    let len = len as u64;
+    len <= room && addr <= room - len
+}
+
+/// The fault of a descriptor's next field.
+#[tactic(auto, unfolding(crate::specs::Chains::next_fault))]
+fn next_fault(
+    place: Place,
+    visited: &ArrayVec<u16, 64>,
+    number: u16,
+    descriptor: Descriptor,
+) -> Option<RingErr>
+    ensures value { result ≡ next_fault place visited.now.items number descriptor }
+    ensures next { IfNone result (has_next descriptor ≡ true → descriptor.next < place.size) }
+{
+    if !descriptor.has_next() {
+        return None;
+    }
+    if descriptor.next >= place.size {
+        return Some(RingErr::BadNext(number));
+    }
+    if visited.as_slice().contains(&descriptor.next) {
+        return Some(RingErr::Loop(number));
+    }
+    None
+}
+
+/// Adds a buffer without a fault to the chain.
+fn add_buffer(mem: &GuestMem, chain: &mut Chain, descriptor: Descriptor)
+    requires fits { BufferFits mem.now chain.old descriptor }
+    requires room { length chain.old.writable.items < 64 }
+    ensures { chain.new ≡ with_buffer mem.now chain.old descriptor }
+{
+    if descriptor.is_writable() {
+        chain.writable.push(Piece {
+            addr: descriptor.addr,
+            len: descriptor.len,
+        });
+    } else {
+        let mut buffer = [0; 1024];
+        let bytes = &mut buffer[..descriptor.len as usize];
+        mem.read(descriptor.addr, bytes).unwrap();
+        chain.readable.try_extend_from_slice(bytes).unwrap();
+    }
+}
