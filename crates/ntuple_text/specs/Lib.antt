@@ -1,0 +1,10 @@
+pub mod Addresses
+pub mod Drafts
+pub mod Keys
+pub mod Numerals
+pub mod Pieces
+pub mod SpecTexts
+pub mod Steps
+pub mod TableLines
+pub mod TableMaps
+pub mod Values

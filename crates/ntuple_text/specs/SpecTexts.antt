@@ -1,0 +1,177 @@
+-- The canonical line of a spec, and the text of a table. This project's own, in the words of ethtool(8).
+use Rattle.std.specs.Prelude.{ℕ, ◌/◌, ◌%◌, ◌==◌, nat_lt, if◌then◌else◌, List, [], ◌∷◌, ◌++◌, codes, drop, Option, Some, None}
+use Rattle.std.specs.Char.{digit_char}
+use Rattle.std.specs.Fmt.{decimal}
+use Rattle.std.specs.List.{flat_map}
+use Rattle.ntuple_text.specs.Keys.{form_of}
+use Rattle.ntuple_text.specs.TableMaps.{TableMap}
+use Rattle.ntuple_text.specs.declared.key.Field.{Field}
+use Rattle.ntuple_text.specs.declared.key.Field.TheVariants.{SrcMac, DstMac, EtherType, SrcIp, DstIp, Tos, TrafficClass, L4Proto, SrcPort, DstPort}
+use Rattle.ntuple_text.specs.declared.key.Form.{Form}
+use Rattle.ntuple_text.specs.declared.key.Form.TheVariants.{Mac, Ipv4, Ipv6, Bits8, Bits16}
+use Rattle.ntuple_text.specs.declared.piece.Spelling.{Spelling}
+use Rattle.ntuple_text.specs.declared.piece.Spelling.TheVariants.{MacGroup, Ipv4Byte, Ipv6Group}
+use Rattle.ntuple_text.specs.declared.spec.Flow.{Flow}
+use Rattle.ntuple_text.specs.declared.spec.Flow.TheVariants.{Ether, Ip4, Tcp4, Udp4, Ip6, Tcp6, Udp6}
+use Rattle.ntuple_text.specs.declared.spec.Part.{Part}
+use Rattle.ntuple_text.specs.declared.spec.Spec.{Spec}
+use Rattle.ntuple_text.specs.declared.spec.TableDo.{TableDo}
+use Rattle.ntuple_text.specs.declared.spec.TableDo.TheVariants.{Drop, Queue}
+
+-- the four hexadecimal digits of 16 bits, in lower case
+abbrev pub four_digits : ℕ → List ℕ
+four_digits n = digit_char (n / 4096 % 16) ∷ digit_char (n / 256 % 16) ∷ digit_char (n / 16 % 16) ∷ digit_char (n % 16) ∷ []
+
+-- how many of the four digits are leading zeros; the last digit always counts
+abbrev pub leading_zeros : ℕ → ℕ
+leading_zeros n = if nat_lt n 16 then 3 else (if nat_lt n 256 then 2 else (if nat_lt n 4096 then 1 else 0))
+
+-- one piece of an address: two digits in a MAC address, a decimal number in an IPv4 address, hexadecimal digits without
+-- leading zeros in an IPv6 address
+unfoldable pub piece_text : Spelling → ℕ → List ℕ
+piece_text MacGroup n = drop 2 (four_digits n)
+piece_text Ipv4Byte n = decimal n
+piece_text Ipv6Group n = drop (leading_zeros n) (four_digits n)
+
+-- a separator and one more piece
+abbrev pub next_piece : Spelling → ℕ → ℕ → List ℕ
+next_piece spelling separator n = separator ∷ piece_text spelling n
+
+-- pieces with separators between them
+abbrev pub pieces_text : Spelling → ℕ → ℕ → List ℕ → List ℕ
+pieces_text spelling separator first rest = piece_text spelling first ++ flat_map (next_piece spelling separator) rest
+
+-- the six groups of a MAC address
+unfoldable pub mac_text : ℕ → List ℕ
+mac_text address =
+    pieces_text MacGroup 58 (address / 0x10000000000 % 256) ((address / 0x100000000 % 256) ∷ (address / 0x1000000 % 256) ∷ (address / 0x10000 % 256) ∷ (address / 0x100 % 256) ∷ (address % 256) ∷ [])
+
+-- the four bytes of an IPv4 address
+unfoldable pub ipv4_text : ℕ → List ℕ
+ipv4_text address =
+    pieces_text Ipv4Byte 46 (address / 0x1000000 % 256) ((address / 0x10000 % 256) ∷ (address / 0x100 % 256) ∷ (address % 256) ∷ [])
+
+-- the eight groups of an IPv6 address, without `::`
+unfoldable pub ipv6_text : ℕ → List ℕ
+ipv6_text address =
+    pieces_text Ipv6Group 58 (address / 0x10000000000000000000000000000 % 65536) ((address / 0x1000000000000000000000000 % 65536) ∷ (address / 0x100000000000000000000 % 65536) ∷ (address / 0x10000000000000000 % 65536) ∷ (address / 0x1000000000000 % 65536) ∷ (address / 0x100000000 % 65536) ∷ (address / 0x10000 % 65536) ∷ (address % 65536) ∷ [])
+
+-- a value in its form
+unfoldable pub form_text : Form → ℕ → List ℕ
+form_text Mac value = mac_text value
+form_text Ipv4 value = ipv4_text value
+form_text Ipv6 value = ipv6_text value
+form_text Bits8 value = decimal value
+form_text Bits16 value = decimal value
+
+-- the Ethernet type: `0x` and four digits
+unfoldable pub type_text : ℕ → List ℕ
+type_text value = 48 ∷ 120 ∷ four_digits value
+
+-- the value of a field
+unfoldable pub value_text : Flow → Field → ℕ → List ℕ
+value_text flow SrcMac value = mac_text value
+value_text flow DstMac value = mac_text value
+value_text flow EtherType value = type_text value
+value_text flow SrcIp value = form_text (form_of flow SrcIp) value
+value_text flow DstIp value = form_text (form_of flow DstIp) value
+value_text flow Tos value = decimal value
+value_text flow TrafficClass value = decimal value
+value_text flow L4Proto value = decimal value
+value_text flow SrcPort value = decimal value
+value_text flow DstPort value = decimal value
+
+-- the word of a field, between blanks
+unfoldable pub field_word : Field → List ℕ
+field_word SrcMac = codes " src "
+field_word DstMac = codes " dst "
+field_word EtherType = codes " proto "
+field_word SrcIp = codes " src-ip "
+field_word DstIp = codes " dst-ip "
+field_word Tos = codes " tos "
+field_word TrafficClass = codes " tclass "
+field_word L4Proto = codes " l4proto "
+field_word SrcPort = codes " src-port "
+field_word DstPort = codes " dst-port "
+
+-- the word of a flow
+unfoldable pub flow_word : Flow → List ℕ
+flow_word Ether = codes "ether"
+flow_word Ip4 = codes "ip4"
+flow_word Tcp4 = codes "tcp4"
+flow_word Udp4 = codes "udp4"
+flow_word Ip6 = codes "ip6"
+flow_word Tcp6 = codes "tcp6"
+flow_word Udp6 = codes "udp6"
+
+-- the fields of a flow, in the order in which they are written
+unfoldable pub fields_of : Flow → List Field
+fields_of Ether = SrcMac ∷ DstMac ∷ EtherType ∷ []
+fields_of Ip4 = SrcIp ∷ DstIp ∷ Tos ∷ L4Proto ∷ []
+fields_of Tcp4 = SrcIp ∷ DstIp ∷ Tos ∷ SrcPort ∷ DstPort ∷ []
+fields_of Udp4 = SrcIp ∷ DstIp ∷ Tos ∷ SrcPort ∷ DstPort ∷ []
+fields_of Ip6 = SrcIp ∷ DstIp ∷ TrafficClass ∷ L4Proto ∷ []
+fields_of Tcp6 = SrcIp ∷ DstIp ∷ TrafficClass ∷ SrcPort ∷ DstPort ∷ []
+fields_of Udp6 = SrcIp ∷ DstIp ∷ TrafficClass ∷ SrcPort ∷ DstPort ∷ []
+
+-- the part that stands for a field
+abbrev pub spec_part : Spec → Field → Option Part
+spec_part spec SrcMac = spec.src
+spec_part spec DstMac = spec.dst
+spec_part spec EtherType = spec.proto
+spec_part spec SrcIp = spec.src
+spec_part spec DstIp = spec.dst
+spec_part spec Tos = spec.class
+spec_part spec TrafficClass = spec.class
+spec_part spec L4Proto = spec.proto
+spec_part spec SrcPort = spec.src_port
+spec_part spec DstPort = spec.dst_port
+
+-- a mask, which is spelled as its value
+unfoldable pub skip_text : Flow → Field → ℕ → List ℕ
+skip_text flow field mask = codes " m " ++ value_text flow field mask
+
+-- the mask of a field, where it skips a bit
+unfoldable pub mask_text : Flow → Field → ℕ → List ℕ
+mask_text flow field mask = if mask == 0 then [] else skip_text flow field mask
+
+-- a field that is given: its word, its value and its mask
+unfoldable pub part_text : Flow → Field → Part → List ℕ
+part_text flow field part = field_word field ++ (value_text flow field part.value ++ mask_text flow field part.skip)
+
+abbrev pub given_text : Flow → Field → Option Part → List ℕ
+given_text flow field None = []
+given_text flow field (Some part) = part_text flow field part
+
+unfoldable pub field_text : Spec → Field → List ℕ
+field_text spec field = given_text spec.flow field (spec_part spec field)
+
+-- a queue as an action
+unfoldable pub queue_text : ℕ → List ℕ
+queue_text queue = codes " action " ++ decimal queue
+
+-- the action: `-1` for a drop, or the number of the queue
+unfoldable pub action_text : TableDo → List ℕ
+action_text Drop = codes " action -1"
+action_text (Queue queue) = queue_text queue
+
+-- the location
+unfoldable pub loc_text : ℕ → List ℕ
+loc_text loc = codes " loc " ++ decimal loc
+
+-- the words of a line past its flow
+unfoldable pub options_text : Spec → List ℕ
+options_text spec = flat_map (field_text spec) (fields_of spec.flow) ++ (action_text spec.action ++ loc_text spec.loc)
+
+-- the canonical line, without its line feed
+unfoldable pub spec_text : Spec → List ℕ
+spec_text spec = codes "flow-type " ++ (flow_word spec.flow ++ options_text spec)
+
+-- the line of what stands at a location
+unfoldable pub slot_text : Option Spec → List ℕ
+slot_text None = []
+slot_text (Some spec) = spec_text spec ++ 10 ∷ []
+
+-- the lines of a table, by rising location
+abbrev pub table_text : TableMap → List ℕ
+table_text table = flat_map slot_text table.slots

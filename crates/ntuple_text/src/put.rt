@@ -1,0 +1,269 @@
+//! Specs and tables, written as canonical lines.
+ghost use Rattle.std.specs.Prelude.{◌≡◌, ◌++◌, ◌∷◌, []};
+ghost use Rattle.std.specs.List.{flat_map};
+ghost use Rattle.vnff_base.specs.Outputs.{Writes};
+ghost use Rattle.ntuple_text.specs.SpecTexts.{action_text, field_text, field_word, fields_of, flow_word, given_text, loc_text, mask_text, options_text, part_text, queue_text, skip_text, slot_text, spec_part, spec_text, table_text, value_text};
+
+use crate::key::Field;
+use crate::put_piece::{put_form, put_mac, put_number, put_type};
+use crate::spec::{Flow, Part, Spec, TableDo};
+use crate::table::Table;
+use vnff_base::{Failed, Out};
+
+/// Writes the lines of a table, by rising location.
+pub fn put_table<O: Out>(out: &mut O, table: &Table) -> Result<(), Failed>
+    ensures { Writes (O.told out.old) (O.told out.new) (O.faults out.old) (O.faults out.new) (table_text table.now) result }
+{
+    put_slots(out, table.slots())
+}
+
+fn put_slots<O: Out>(out: &mut O, slots: &[Option<Spec>]) -> Result<(), Failed>
+    ensures { Writes (O.told out.old) (O.told out.new) (O.faults out.old) (O.faults out.new) (flat_map slot_text slots.now) result }
+{
+    for slot in slots {
+        put_slot(out, slot)?;
+    }
+    Ok(())
+}
+
+// Writes the line of what stands at a location.
+#[tactic(auto, unfolding(crate::specs::SpecTexts::slot_text))]
+fn put_slot<O: Out>(out: &mut O, slot: &Option<Spec>) -> Result<(), Failed>
+    ensures { Writes (O.told out.old) (O.told out.new) (O.faults out.old) (O.faults out.new) (slot_text slot.now) result }
+{
+    match slot {
+        Some(spec) => put_line(out, spec),
+        None => Ok(()),
+    }
+}
+
+fn put_line<O: Out>(out: &mut O, spec: &Spec) -> Result<(), Failed>
+    ensures { Writes (O.told out.old) (O.told out.new) (O.faults out.old) (O.faults out.new) (spec_text spec.now ++ 10 ∷ []) result }
+{
+    put_spec(out, spec)?;
+    out.put(b"\n")
+}
+
+/// Writes the canonical line of a spec, without its line feed: the flow, the fields that are given, the
+/// action and the location, with single spaces. A mask is written where it skips a bit.
+#[tactic(auto, unfolding(crate::specs::SpecTexts::spec_text))]
+pub fn put_spec<O: Out>(out: &mut O, spec: &Spec) -> Result<(), Failed>
+    ensures { Writes (O.told out.old) (O.told out.new) (O.faults out.old) (O.faults out.new) (spec_text spec.now) result }
+{
+    out.put(b"flow-type ")?;
+    put_flow(out, spec.flow)?;
+    put_options(out, spec)
+}
+
+#[tactic(auto, unfolding(crate::specs::SpecTexts::flow_word))]
+fn put_flow<O: Out>(out: &mut O, flow: Flow) -> Result<(), Failed>
+    ensures { Writes (O.told out.old) (O.told out.new) (O.faults out.old) (O.faults out.new) (flow_word flow) result }
+{
+    match flow {
+        Flow::Ether => out.put(b"ether"),
+        Flow::Ip4 => out.put(b"ip4"),
+        Flow::Tcp4 => out.put(b"tcp4"),
+        Flow::Udp4 => out.put(b"udp4"),
+        Flow::Ip6 => out.put(b"ip6"),
+        Flow::Tcp6 => out.put(b"tcp6"),
+        Flow::Udp6 => out.put(b"udp6"),
+    }
+}
+
+#[tactic(auto, unfolding(crate::specs::SpecTexts::options_text))]
+fn put_options<O: Out>(out: &mut O, spec: &Spec) -> Result<(), Failed>
+    ensures { Writes (O.told out.old) (O.told out.new) (O.faults out.old) (O.faults out.new) (options_text spec.now) result }
+{
+    put_fields(out, spec)?;
+    put_action(out, spec.action)?;
+    put_loc(out, spec.loc)
+}
+
+fn put_fields<O: Out>(out: &mut O, spec: &Spec) -> Result<(), Failed>
+    ensures { Writes (O.told out.old) (O.told out.new) (O.faults out.old) (O.faults out.new) (flat_map (field_text spec.now) (fields_of spec.now.flow)) result }
+{
+    put_each(out, spec, fields(spec.flow))
+}
+
+fn put_each<O: Out>(out: &mut O, spec: &Spec, fields: &[Field]) -> Result<(), Failed>
+    ensures { Writes (O.told out.old) (O.told out.new) (O.faults out.old) (O.faults out.new) (flat_map (field_text spec.now) fields.now) result }
+{
+    for field in fields {
+        put_field(out, spec, *field)?;
+    }
+    Ok(())
+}
+
+// The fields of a flow, in the order in which they are written.
+#[tactic(auto, unfolding(crate::specs::SpecTexts::fields_of))]
+fn fields(flow: Flow) -> &'static [Field]
+    ensures { result.now ≡ fields_of flow }
+{
+    match flow {
+        Flow::Ether => &[Field::SrcMac, Field::DstMac, Field::EtherType],
+        Flow::Ip4 => &[Field::SrcIp, Field::DstIp, Field::Tos, Field::L4Proto],
+        Flow::Ip6 => &[
+            Field::SrcIp,
+            Field::DstIp,
+            Field::TrafficClass,
+            Field::L4Proto,
+        ],
+        Flow::Tcp4 | Flow::Udp4 => &[
+            Field::SrcIp,
+            Field::DstIp,
+            Field::Tos,
+            Field::SrcPort,
+            Field::DstPort,
+        ],
+        Flow::Tcp6 | Flow::Udp6 => &[
+            Field::SrcIp,
+            Field::DstIp,
+            Field::TrafficClass,
+            Field::SrcPort,
+            Field::DstPort,
+        ],
+    }
+}
+
+#[tactic(auto, unfolding(crate::specs::SpecTexts::field_text))]
+fn put_field<O: Out>(out: &mut O, spec: &Spec, field: Field) -> Result<(), Failed>
+    ensures { Writes (O.told out.old) (O.told out.new) (O.faults out.old) (O.faults out.new) (field_text spec.now field) result }
+{
+    put_given(out, spec.flow, field, part(spec, field))
+}
+
+fn put_given<O: Out>(
+    out: &mut O,
+    flow: Flow,
+    field: Field,
+    part: Option<Part>,
+) -> Result<(), Failed>
+    ensures { Writes (O.told out.old) (O.told out.new) (O.faults out.old) (O.faults out.new) (given_text flow field part) result }
+{
+    match part {
+        Some(part) => put_part(out, flow, field, part),
+        None => Ok(()),
+    }
+}
+
+// The part that stands for a field.
+fn part(spec: &Spec, field: Field) -> Option<Part>
+    ensures { result ≡ spec_part spec.now field }
+{
+    match field {
+        Field::SrcMac | Field::SrcIp => spec.src,
+        Field::DstMac | Field::DstIp => spec.dst,
+        Field::EtherType | Field::L4Proto => spec.proto,
+        Field::Tos | Field::TrafficClass => spec.class,
+        Field::SrcPort => spec.src_port,
+        Field::DstPort => spec.dst_port,
+    }
+}
+
+#[tactic(auto, unfolding(crate::specs::SpecTexts::part_text))]
+fn put_part<O: Out>(out: &mut O, flow: Flow, field: Field, part: Part) -> Result<(), Failed>
+    ensures { Writes (O.told out.old) (O.told out.new) (O.faults out.old) (O.faults out.new) (part_text flow field part) result }
+{
+    put_field_word(out, field)?;
+    put_value(out, flow, field, part.value)?;
+    put_mask(out, flow, field, part.skip)
+}
+
+#[tactic(auto, unfolding(crate::specs::SpecTexts::field_word))]
+fn put_field_word<O: Out>(out: &mut O, field: Field) -> Result<(), Failed>
+    ensures { Writes (O.told out.old) (O.told out.new) (O.faults out.old) (O.faults out.new) (field_word field) result }
+{
+    match field {
+        Field::SrcMac => out.put(b" src "),
+        Field::DstMac => out.put(b" dst "),
+        Field::EtherType => out.put(b" proto "),
+        Field::SrcIp => out.put(b" src-ip "),
+        Field::DstIp => out.put(b" dst-ip "),
+        Field::Tos => out.put(b" tos "),
+        Field::TrafficClass => out.put(b" tclass "),
+        Field::L4Proto => out.put(b" l4proto "),
+        Field::SrcPort => out.put(b" src-port "),
+        Field::DstPort => out.put(b" dst-port "),
+    }
+}
+
+#[tactic(auto, unfolding(crate::specs::SpecTexts::mask_text))]
+fn put_mask<O: Out>(out: &mut O, flow: Flow, field: Field, mask: u128) -> Result<(), Failed>
+    ensures { Writes (O.told out.old) (O.told out.new) (O.faults out.old) (O.faults out.new) (mask_text flow field mask) result }
+{
+    if mask == 0 {
+        Ok(())
+    } else {
+        put_skip(out, flow, field, mask)
+    }
+}
+
+#[tactic(auto, unfolding(crate::specs::SpecTexts::skip_text))]
+fn put_skip<O: Out>(out: &mut O, flow: Flow, field: Field, mask: u128) -> Result<(), Failed>
+    ensures { Writes (O.told out.old) (O.told out.new) (O.faults out.old) (O.faults out.new) (skip_text flow field mask) result }
+{
+    out.put(b" m ")?;
+    put_value(out, flow, field, mask)
+}
+
+#[tactic(auto, unfolding(crate::specs::SpecTexts::value_text))]
+fn put_value<O: Out>(out: &mut O, flow: Flow, field: Field, value: u128) -> Result<(), Failed>
+    ensures { Writes (O.told out.old) (O.told out.new) (O.faults out.old) (O.faults out.new) (value_text flow field value) result }
+{
+    match field {
+        Field::SrcMac | Field::DstMac => put_mac(out, value),
+        Field::EtherType => put_type(out, value),
+        Field::SrcIp | Field::DstIp => put_form(out, flow.form(field), value),
+        _ => put_number(out, value),
+    }
+}
+
+#[tactic(auto, unfolding(crate::specs::SpecTexts::action_text))]
+fn put_action<O: Out>(out: &mut O, action: TableDo) -> Result<(), Failed>
+    ensures { Writes (O.told out.old) (O.told out.new) (O.faults out.old) (O.faults out.new) (action_text action) result }
+{
+    match action {
+        TableDo::Drop => out.put(b" action -1"),
+        TableDo::Queue(queue) => put_queue(out, queue),
+    }
+}
+
+#[tactic(auto, unfolding(crate::specs::SpecTexts::queue_text))]
+fn put_queue<O: Out>(out: &mut O, queue: u8) -> Result<(), Failed>
+    ensures { Writes (O.told out.old) (O.told out.new) (O.faults out.old) (O.faults out.new) (queue_text queue) result }
+{
+    out.put(b" action ")?;
+    put_number(out, u128::from(queue))
+}
+
+#[tactic(auto, unfolding(crate::specs::SpecTexts::loc_text))]
+fn put_loc<O: Out>(out: &mut O, loc: u16) -> Result<(), Failed>
+    ensures { Writes (O.told out.old) (O.told out.new) (O.faults out.old) (O.faults out.new) (loc_text loc) result }
+{
+    out.put(b" loc ")?;
+    put_number(out, u128::from(loc))
+}
+
+#[cfg(test)]
+mod tests {
+    use super::*;
+    use crate::read::read_table;
+    use std::test::Fail;
+    use vnff_base::MemOut;
+
+    #[test]
+    fn writes_canonical_lines(rt: HostRuntime) -> Result<(), Fail> {
+        let text =
+            b"flow-type ip6 src-ip ::A m ::f loc 4 action 0\nflow-type ether proto 2054 m 0xff00 action -1 loc 3";
+        let table = read_table(rt.alloc(), text, 4)?;
+        let mut out = MemOut::new(rt.alloc(), 256)?;
+        assert_eq!(rt; put_table(&mut out, &table), Ok(()));
+        let lines =
+            b"flow-type ether proto 0x0806 m 0xff00 action -1 loc 3\nflow-type ip6 src-ip 0:0:0:0:0:0:0:a m 0:0:0:0:0:0:0:f action 0 loc 4\n";
+        assert!(rt; out.bytes() == lines.as_slice());
+        let spec = table.at(3).ok_or("a spec")?;
+        let mut line = MemOut::new(rt.alloc(), 8)?;
+        assert_eq!(rt; put_spec(&mut line, spec), Err(Failed));
+        Ok(())
+    }
+}

@@ -1,0 +1,186 @@
+//! Addresses and numbers, put to an output.
+ghost use Rattle.std.specs.Prelude.{◌≡◌, ◌<◌, ◌/◌, ◌%◌, length, decimal, slice_index, drop, ◌++◌};
+ghost use Rattle.std.specs.Char.{digit_char};
+ghost use Rattle.std.specs.List.{flat_map};
+ghost use Rattle.vnff_base.specs.Outputs.{Writes};
+ghost use Rattle.ntuple_text.specs.SpecTexts.{four_digits, form_text, ipv4_text, ipv6_text, leading_zeros, mac_text, next_piece, piece_text, pieces_text, type_text};
+
+use crate::key::Form;
+use crate::piece::Spelling;
+use itoa::Buffer;
+use vnff_base::{Failed, Out};
+
+/// Writes a value in its form.
+#[tactic(auto, unfolding(crate::specs::SpecTexts::form_text))]
+pub(crate) fn put_form<O: Out>(out: &mut O, form: Form, value: u128) -> Result<(), Failed>
+    ensures { Writes (O.told out.old) (O.told out.new) (O.faults out.old) (O.faults out.new) (form_text form value) result }
+{
+    match form {
+        Form::Mac => put_mac(out, value),
+        Form::Ipv4 => put_ipv4(out, value),
+        Form::Ipv6 => put_ipv6(out, value),
+        Form::Bits8 | Form::Bits16 => put_number(out, value),
+    }
+}
+
+/// Writes a number in decimal.
+pub(crate) fn put_number<O: Out>(out: &mut O, number: u128) -> Result<(), Failed>
+    ensures { Writes (O.told out.old) (O.told out.new) (O.faults out.old) (O.faults out.new) (decimal number) result }
+{
+    let mut buffer = Buffer::new();
+    out.put(buffer.format(number).as_bytes())
+}
+
+/// Writes an Ethernet type: `0x` and four digits.
+#[tactic(auto, unfolding(crate::specs::SpecTexts::type_text))]
+pub(crate) fn put_type<O: Out>(out: &mut O, value: u128) -> Result<(), Failed>
+    ensures { Writes (O.told out.old) (O.told out.new) (O.faults out.old) (O.faults out.new) (type_text value) result }
+{
+    let [first, second, third, fourth] = digits(value);
+    out.put(&[b'0', b'x', first, second, third, fourth])
+}
+
+/// Writes a MAC address: six groups of two digits.
+#[tactic(auto, unfolding(crate::specs::SpecTexts::mac_text))]
+pub(crate) fn put_mac<O: Out>(out: &mut O, address: u128) -> Result<(), Failed>
+    ensures { Writes (O.told out.old) (O.told out.new) (O.faults out.old) (O.faults out.new) (mac_text address) result }
+{
+    let rest = [
+        (address / 0x1_0000_0000 % 256) as u16,
+        (address / 0x100_0000 % 256) as u16,
+        (address / 0x1_0000 % 256) as u16,
+        (address / 0x100 % 256) as u16,
+        (address % 256) as u16,
+    ];
+    let first = (address / 0x100_0000_0000 % 256) as u16;
+    put_pieces(out, Spelling::MacGroup, b':', first, &rest)
+}
+
+#[tactic(auto, unfolding(crate::specs::SpecTexts::ipv4_text))]
+fn put_ipv4<O: Out>(out: &mut O, address: u128) -> Result<(), Failed>
+    ensures { Writes (O.told out.old) (O.told out.new) (O.faults out.old) (O.faults out.new) (ipv4_text address) result }
+{
+    let rest = [
+        (address / 0x1_0000 % 256) as u16,
+        (address / 0x100 % 256) as u16,
+        (address % 256) as u16,
+    ];
+    let first = (address / 0x100_0000 % 256) as u16;
+    put_pieces(out, Spelling::Ipv4Byte, b'.', first, &rest)
+}
+
+#[tactic(auto, unfolding(crate::specs::SpecTexts::ipv6_text))]
+fn put_ipv6<O: Out>(out: &mut O, address: u128) -> Result<(), Failed>
+    ensures { Writes (O.told out.old) (O.told out.new) (O.faults out.old) (O.faults out.new) (ipv6_text address) result }
+{
+    let rest = [
+        (address / 0x1_0000_0000_0000_0000_0000_0000 % 0x1_0000) as u16,
+        (address / 0x1_0000_0000_0000_0000_0000 % 0x1_0000) as u16,
+        (address / 0x1_0000_0000_0000_0000 % 0x1_0000) as u16,
+        (address / 0x1_0000_0000_0000 % 0x1_0000) as u16,
+        (address / 0x1_0000_0000 % 0x1_0000) as u16,
+        (address / 0x1_0000 % 0x1_0000) as u16,
+        (address % 0x1_0000) as u16,
+    ];
+    let first = (address / 0x1_0000_0000_0000_0000_0000_0000_0000 % 0x1_0000) as u16;
+    put_pieces(out, Spelling::Ipv6Group, b':', first, &rest)
+}
+
+// Writes pieces with separators between them.
+fn put_pieces<O: Out>(
+    out: &mut O,
+    spelling: Spelling,
+    separator: u8,
+    first: u16,
+    rest: &[u16],
+) -> Result<(), Failed>
+    ensures { Writes (O.told out.old) (O.told out.new) (O.faults out.old) (O.faults out.new) (pieces_text spelling separator first rest.now) result }
+{
+    put_piece(out, spelling, first)?;
+    put_rest(out, spelling, separator, rest)
+}
+
+fn put_rest<O: Out>(
+    out: &mut O,
+    spelling: Spelling,
+    separator: u8,
+    rest: &[u16],
+) -> Result<(), Failed>
+    ensures { Writes (O.told out.old) (O.told out.new) (O.faults out.old) (O.faults out.new) (flat_map (next_piece spelling separator) rest.now) result }
+{
+    for piece in rest {
+        put_next(out, spelling, separator, *piece)?;
+    }
+    Ok(())
+}
+
+fn put_next<O: Out>(
+    out: &mut O,
+    spelling: Spelling,
+    separator: u8,
+    piece: u16,
+) -> Result<(), Failed>
+    ensures { Writes (O.told out.old) (O.told out.new) (O.faults out.old) (O.faults out.new) (next_piece spelling separator piece) result }
+{
+    out.put(&[separator])?;
+    put_piece(out, spelling, piece)
+}
+
+#[tactic(auto, unfolding(crate::specs::SpecTexts::piece_text))]
+fn put_piece<O: Out>(out: &mut O, spelling: Spelling, piece: u16) -> Result<(), Failed>
+    ensures { Writes (O.told out.old) (O.told out.new) (O.faults out.old) (O.faults out.new) (piece_text spelling piece) result }
+{
+    let piece = u128::from(piece);
+    match spelling {
+        Spelling::MacGroup => put_from(out, piece, 2),
+        Spelling::Ipv4Byte => put_number(out, piece),
+        Spelling::Ipv6Group => put_from(out, piece, leading_zeros(piece)),
+    }
+}
+
+// Writes the four digits of a number but the first few.
+fn put_from<O: Out>(out: &mut O, number: u128, skipped: usize) -> Result<(), Failed>
+    requires { skipped < 4 }
+    ensures { Writes (O.told out.old) (O.told out.new) (O.faults out.old) (O.faults out.new) (drop skipped (four_digits number)) result }
+{
+    let digits = digits(number);
+    out.put(&digits[skipped..])
+}
+
+fn leading_zeros(number: u128) -> usize
+    ensures value { result ≡ leading_zeros number }
+    ensures bound { result < 4 }
+{
+    if number < 16 {
+        3
+    } else if number < 256 {
+        2
+    } else if number < 4096 {
+        1
+    } else {
+        0
+    }
+}
+
+fn digits(number: u128) -> [u8; 4]
+    ensures { result ≡ four_digits number }
+{
+    [
+        digit(number / 4096 % 16),
+        digit(number / 256 % 16),
+        digit(number / 16 % 16),
+        digit(number % 16),
+    ]
+}
+
+// The digit of four bits.
+fn digit(value: u128) -> u8
+    requires { value < 16 }
+    ensures { result ≡ digit_char value }
+{
+    if value < 10 {
+        b'0' + value as u8
+    } else {
+        b'a' + (value - 10) as u8
+    }
+}
