@@ -1,5 +1,5 @@
 -- The canonical line of a spec, and the text of a table. This project's own, in the words of ethtool(8).
-use Rattle.std.specs.Prelude.{ℕ, ◌/◌, ◌%◌, ◌==◌, nat_lt, if◌then◌else◌, List, [], ◌∷◌, ◌++◌, codes, drop, Option, Some, None}
+use Rattle.std.specs.Prelude.{ℕ, ◌/◌, ◌%◌, ◌^◌, ◌==◌, nat_lt, if◌then◌else◌, List, [], ◌∷◌, ◌++◌, codes, drop, Option, Some, None}
 use Rattle.std.specs.Char.{digit_char}
 use Rattle.std.specs.Fmt.{decimal}
 use Rattle.std.specs.List.{flat_map}
@@ -55,6 +55,14 @@ ipv4_text address =
 unfoldable pub ipv6_text : ℕ → List ℕ
 ipv6_text address =
     pieces_text Ipv6Group 58 (address / 0x10000000000000000000000000000 % 65536) ((address / 0x1000000000000000000000000 % 65536) ∷ (address / 0x100000000000000000000 % 65536) ∷ (address / 0x10000000000000000 % 65536) ∷ (address / 0x1000000000000 % 65536) ∷ (address / 0x100000000 % 65536) ∷ (address / 0x10000 % 65536) ∷ (address % 65536) ∷ [])
+
+-- one above the greatest value of a form
+abbrev pub form_range : Form → ℕ
+form_range Mac = 2 ^ 48
+form_range Ipv4 = 2 ^ 32
+form_range Ipv6 = 2 ^ 128
+form_range Bits8 = 256
+form_range Bits16 = 65536
 
 -- a value in its form
 unfoldable pub form_text : Form → ℕ → List ℕ

@@ -12,12 +12,14 @@
 //! fields and their words), `Values` (of an option), `Drafts` (the options of a line), `TableMaps` (a table by location),
 //! `TableLines` (what a line does, and a whole text) and `SpecTexts` (canonical lines). Worked examples stand in
 //! `proofs/ValueExamples.antt`, `proofs/TableExamples.antt` and `proofs/TextExamples.antt`.
+//! [`laws`] has a law that stands on no other call: each value of a field is read back from its canonical spelling.
 #![tactic(auto)]
 
 mod address;
 mod draft;
 mod fault;
 mod key;
+pub mod laws;
 mod numeral;
 mod piece;
 mod put;
