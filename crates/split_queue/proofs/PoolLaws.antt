@@ -12,7 +12,7 @@ last_of : (P : ℕ → Type 0) (xs : List ℕ) (y : ℕ) → AllByRecursion P (x
 last_of P [] y all = (tt, all.0)
 last_of P (x ∷ xs) y all = let rest = last_of P xs y all.1 in ((all.0, rest.0), rest.1)
 
-all_push : (P : ℕ → Type 0) (xs : List ℕ) (y : ℕ) → AllByRecursion P xs → P y → AllByRecursion P (xs ++ y ∷ [])
+pub all_push : (P : ℕ → Type 0) (xs : List ℕ) (y : ℕ) → AllByRecursion P xs → P y → AllByRecursion P (xs ++ y ∷ [])
 all_push P [] y all here = (here, tt)
 all_push P (x ∷ xs) y all here = (all.0, all_push P xs y all.1 here)
 
@@ -33,7 +33,7 @@ pub last_free : (owners : List (Option ℕ)) (rest : List ℕ) (number : ℕ) �
 last_free owners [] number free = (free.0, free.1)
 last_free owners (r ∷ rest) number free = last_free owners rest number free.3
 
-IsFreeList-pop : (owners : List (Option ℕ)) (rest : List ℕ) (number x : ℕ) → IsFreeList owners (rest ++ number ∷ []) → IsFreeList (set owners number (Some x)) rest
+pub IsFreeList-pop : (owners : List (Option ℕ)) (rest : List ℕ) (number x : ℕ) → IsFreeList owners (rest ++ number ∷ []) → IsFreeList (set owners number (Some x)) rest
 IsFreeList-pop owners [] number x free = tt
 IsFreeList-pop owners (r ∷ rest) number x free =
     let parts = last_of (λ other. other ≢ r) rest number free.2 in
@@ -52,7 +52,7 @@ apart_from_held : (owners : List (Option ℕ)) (free : List ℕ) (number : ℕ) 
 apart_from_held owners [] number held free = tt
 apart_from_held owners (r ∷ rest) number held free = (λ same. absurd (let e = ap (owner_of owners) same in let n = free.1 in cc), apart_from_held owners rest number held free.3)
 
-IsFreeList-push : (owners : List (Option ℕ)) (free : List ℕ) (number : ℕ) → number < length owners → owner_of owners number ≡ None → AllByRecursion (λ r. number ≢ r) free → IsFreeList owners free → IsFreeList owners (free ++ number ∷ [])
+pub IsFreeList-push : (owners : List (Option ℕ)) (free : List ℕ) (number : ℕ) → number < length owners → owner_of owners number ≡ None → AllByRecursion (λ r. number ≢ r) free → IsFreeList owners free → IsFreeList owners (free ++ number ∷ [])
 IsFreeList-push owners [] number h empty apart free = (h, empty, tt, tt)
 IsFreeList-push owners (r ∷ rest) number h empty apart free = (free.0, free.1, all_push (λ other. other ≢ r) rest number free.2 apart.0, IsFreeList-push owners rest number h empty apart.1 free.3)
 
@@ -87,7 +87,7 @@ pub record IsFilling (size given : ℕ) (free : List ℕ) : Type 0 where
   pub above : AllByRecursion (λ r. size - given ≤ r) free
   pub counted : length free ≡ given
 
-all_weaker : (P Q : ℕ → Type 0) → ((r : ℕ) → P r → Q r) → (xs : List ℕ) → AllByRecursion P xs → AllByRecursion Q xs
+pub all_weaker : (P Q : ℕ → Type 0) → ((r : ℕ) → P r → Q r) → (xs : List ℕ) → AllByRecursion P xs → AllByRecursion Q xs
 all_weaker P Q imp [] all = tt
 all_weaker P Q imp (x ∷ xs) all = (imp x all.0, all_weaker P Q imp xs all.1)
 

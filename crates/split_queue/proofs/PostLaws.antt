@@ -1,13 +1,15 @@
 -- One byte of a cleared area, and one descriptor of a posted chain.
-use Rattle.std.proofs.Common.{◌≡◌, ℕ, suc, ◌+◌, ◌-◌, ◌*◌, ◌<◌, ◌≤◌, ◌⊎◌, inl, inr, List, [], ◌∷◌, ◌++◌, length, length-append, length-drop, length-set, take, drop, reverse, get_or, Option, Some, None, add-one, refl, sym, ap, ◌∙◌, arith}
+use Rattle.std.proofs.Common.{◌≡◌, ℕ, suc, ◌+◌, ◌-◌, ◌*◌, ◌^◌, ◌<◌, ◌≤◌, ◌⊎◌, inl, inr, List, [], ◌∷◌, ◌++◌, length, length-append, length-drop, length-set, take, drop, reverse, get_or, Option, Some, None, add-one, refl, sym, ap, ◌∙◌, arith}
 use Rattle.std.proofs.Math.ListN.{set}
 use Rattle.std.proofs.Math.Seq.{drop-cons}
 use Rattle.std.proofs.lemmas.Bool.{cases_lt, cases_eq}
 use Rattle.std.proofs.lemmas.List.{reverse-append, take_all, take_at, take-take, get_or-set_other}
+use Rattle.std.specs.List.{All}
+use Rattle.std.proofs.lemmas.List.Elements.{All-nil, All-more}
 use Rattle.guest_mem.specs.Memory.{WritesAt}
 use Rattle.split_queue.specs.Layout.{ChangesOnly, with_descriptor, available_bytes, used_bytes}
 use Rattle.split_queue.specs.Pools.{PoolState, owner_of}
-use Rattle.split_queue.specs.Drivers.{ClearsArea, ClearsRings, ChangesOnlyFree, given, link, with_descriptors, owners_with}
+use Rattle.split_queue.specs.Drivers.{ClearsArea, ClearsRings, ChangesOnlyFree, ChangesOnlySlot, ChangesOnlyPosted, given, link, with_descriptors, owners_with}
 use Rattle.split_queue.specs.declared.place.Place.{Place}
 use Rattle.split_queue.specs.declared.chain.Piece.{Piece}
 
@@ -45,6 +47,13 @@ clears-both before mem after place first second = record {
 
 -- ---- posting
 
+-- first the descriptors, then the slot and the index
+pub changes-posted : (before mem after : List ℕ) (place : Place) (owners : List (Option ℕ)) (index : ℕ) → ChangesOnlyFree before mem place owners → ChangesOnlySlot mem after place index → ChangesOnlyPosted before after place owners index
+changes-posted before mem after place owners index first second = record {
+  size = second.size ∙ first.size;
+  others = λ addr free slot idx. second.others addr slot idx ∙ first.others addr free;
+}
+
 -- after some pieces: what is left still gives the whole, and nothing but free descriptors was changed
 pub record IsPosting (place : Place) (head : ℕ) (before : List ℕ) (pieces : List Piece) (readable : ℕ) (pool : PoolState) (i : ℕ) (mem : List ℕ) (now : PoolState) : Type 0 where
   pub memory : with_descriptors mem place (given (length pieces - i) now.free) (drop i pieces) (readable - i) ≡ with_descriptors before place (given (length pieces) pool.free) pieces readable
@@ -54,6 +63,7 @@ pub record IsPosting (place : Place) (head : ℕ) (before : List ℕ) (pieces : 
   pub sized : length now.owners ≡ length pool.owners
   pub was_free : (number : ℕ) → owner_of now.owners number ≡ None → owner_of pool.owners number ≡ None
   pub others : ChangesOnlyFree before mem place pool.owners
+  pub fitted : All (λ p. p.len < 2 ^ 32) (take i pieces)
 
 module _ (place : Place) (head : ℕ) (before : List ℕ) (pieces : List Piece) (readable : ℕ) (pool : PoolState) where
   pub posting-none : IsPosting place head before pieces readable pool 0 before pool
@@ -69,16 +79,12 @@ module _ (place : Place) (head : ℕ) (before : List ℕ) (pieces : List Piece) 
         sized = refl;
         was_free = λ number none. none;
         others = record { size = refl; others = λ addr apart. refl };
+        fitted = All-nil (λ (p : Piece). p.len < 2 ^ 32);
       }
 
-  pub posting-all : (mem : List ℕ) (now : PoolState) (i : ℕ) → length pieces ≤ i → IsPosting place head before pieces readable pool i mem now → i ≡ length pieces → (mem ≡ with_descriptors before place (given (length pieces) pool.free) pieces readable) × (now.owners ≡ owners_with pool.owners (given (length pieces) pool.free) head) × (now.free ≡ take (length pool.free - length pieces) pool.free)
-  posting-all mem now i all so_far whole =
-      let none : length pieces - i ≡ 0 = omega arith in
-      (rw none at so_far.memory, rw none at so_far.owners, rw whole at so_far.free)
-
   module _ (mem after : List ℕ) (now later : PoolState) (i number : ℕ) (d : Piece) (below : i < length pieces) (so_far : IsPosting place head before pieces readable pool i mem now) where
-    pub posting-more : now.free ≡ later.free ++ number ∷ [] → later.owners ≡ set now.owners number (Some head) → owner_of now.owners number ≡ None → number < place.size → after ≡ with_descriptor mem place number (link (get_or pieces i d) (readable - i) (drop (i + 1) pieces) (given (length (drop (i + 1) pieces)) later.free)) → ChangesOnly mem after (place.desc + 16 * number) 16 → IsPosting place head before pieces readable pool (i + 1) after later
-    posting-more claimed owned none within is_after changes =
+    pub posting-more : now.free ≡ later.free ++ number ∷ [] → later.owners ≡ set now.owners number (Some head) → owner_of now.owners number ≡ None → number < place.size → after ≡ with_descriptor mem place number (link (get_or pieces i d) (readable - i) (drop (i + 1) pieces) (given (length (drop (i + 1) pieces)) later.free)) → ChangesOnly mem after (place.desc + 16 * number) 16 → (get_or pieces i d).len < 2 ^ 32 → IsPosting place head before pieces readable pool (i + 1) after later
+    posting-more claimed owned none within is_after changes small =
         let len_later : length (drop (i + 1) pieces) ≡ length pieces - (i + 1) = length-drop (i + 1) pieces in
         let turns : length pieces - i ≡ suc (length (drop (i + 1) pieces)) = omega (arith, len_later) in
         let backwards : reverse now.free ≡ number ∷ reverse later.free = ap reverse claimed ∙ reverse-append later.free (number ∷ []) in
@@ -104,4 +110,5 @@ module _ (place : Place) (head : ℕ) (before : List ℕ) (pieces : List Piece) 
             size = changes.size ∙ so_far.others.size;
             others = λ addr apart. changes.others addr (apart number within (so_far.was_free number none)) ∙ so_far.others.others addr apart;
           };
+          fitted = All-more (λ (p : Piece). p.len < 2 ^ 32) pieces i d below so_far.fitted small;
         }

@@ -19,7 +19,7 @@ use Rattle.split_queue.specs.declared.walk.RingErr.TheVariants as fault
 
 -- ---- what a descriptor's answer says
 
-abbrev answered : Option RingErr → Option RingErr → Bool → ℕ → Result (Option ℕ) RingErr
+abbrev pub answered : Option RingErr → Option RingErr → Bool → ℕ → Result (Option ℕ) RingErr
 answered b n more next = elim b [ Some f ↦ Err f | None ↦ elim n [ Some f ↦ Err f | None ↦ cond more (Ok (Some next)) (Ok None) ] ]
 
 answered-some : (b f : Option RingErr) (more : Bool) (next n : ℕ) → answered b f more next ≡ Ok (Some n) → (f ≡ None) × (more ≡ true) × (next ≡ n)
@@ -124,7 +124,7 @@ buffer_bytes mem chain d =
       | false ↦ refl
     ]
 
-buffer_pieces : (mem : List ℕ) (chain : Chain) (d : Descriptor) → (with_buffer mem chain d).writable.items ≡ chain.writable.items ++ cond (is_writable d) (record { addr = d.addr; len = d.len } ∷ []) []
+pub buffer_pieces : (mem : List ℕ) (chain : Chain) (d : Descriptor) → (with_buffer mem chain d).writable.items ≡ chain.writable.items ++ cond (is_writable d) (record { addr = d.addr; len = d.len } ∷ []) []
 buffer_pieces mem chain d =
     elim (is_writable d) as (λ b. (cond b (record chain { writable = record { items = chain.writable.items ++ record { addr = d.addr; len = d.len } ∷ [] } }) (record chain { readable = record { items = chain.readable.items ++ bytes_at mem d.addr d.len } })).writable.items ≡ chain.writable.items ++ cond b (record { addr = d.addr; len = d.len } ∷ []) []) [
       | true ↦ refl
@@ -184,7 +184,7 @@ module _ (mem : List ℕ) (place : Place) (head : ℕ) (front : List ℕ) (numbe
         },
       )
 
-same_chain : (x y : Chain) (answer : Result Chain RingErr) → answer ≡ Ok x → answer ≡ Ok y → x ≡ y
+pub same_chain : (x y : Chain) (answer : Result Chain RingErr) → answer ≡ Ok x → answer ≡ Ok y → x ≡ y
 same_chain x y answer e f = cc
 
 -- ---- the whole walk

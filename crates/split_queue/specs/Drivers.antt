@@ -1,8 +1,8 @@
 -- The driver's end of a queue: what it posts, and what it takes back (Virtio 1.4 draft, "Split Virtqueues"; which free
 -- descriptors a chain gets is this project's own).
-use Rattle.std.specs.Prelude.{◌≡◌, ℕ, ◌+◌, ◌-◌, ◌*◌, ◌%◌, ◌<◌, ◌≤◌, ◌==◌, nat_lt, if◌then◌else◌, List, [], ◌∷◌, length, take, reverse, slice_index, slice_set, Option, Some, None, Result, Ok, Err}
+use Rattle.std.specs.Prelude.{◌≡◌, ℕ, ◌+◌, ◌-◌, ◌*◌, ◌%◌, ◌^◌, ◌<◌, ◌≤◌, ◌==◌, nat_lt, if◌then◌else◌, List, [], ◌∷◌, length, take, reverse, slice_index, slice_set, Option, Some, None, Result, Ok, Err}
 use Rattle.split_queue.specs.Layout.{IsOutside, le16_at, le32_at, with_le16, with_descriptor, available_bytes, used_bytes, used_idx_addr, used_element_addr}
-use Rattle.split_queue.specs.Pools.{PoolState, owner_of, heads_chain, after_release}
+use Rattle.split_queue.specs.Pools.{PoolState, owner_of, heads_chain, after_release, IsFreeList}
 use Rattle.split_queue.specs.Setup.{IsPlaced}
 use Rattle.split_queue.specs.Rings.{index_after, index_gap}
 use Rattle.split_queue.specs.declared.place.Place.{Place}
@@ -26,6 +26,12 @@ pub record DriverState : Type 0 where
 pub record IsDriver (place : Place) (mem_len : ℕ) (pool : PoolState) : Type 0 where
   pub placed : IsPlaced place mem_len
   pub sized : length pool.owners ≡ place.size
+
+-- what every end knows of itself: the invariant of an end, and of its pool that the free ones are distinct descriptors
+pub record IsEnd (end : DriverState) : Type 0 where
+  pub valid : IsDriver end.place end.mem_len end.pool
+  pub listed : IsFreeList end.pool.owners end.pool.free
+  pub numbered : length end.pool.owners < 2 ^ 16
 
 -- ---- a fresh end
 

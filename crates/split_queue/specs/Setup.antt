@@ -1,6 +1,6 @@
 -- Where a split virtqueue may lie in a memory (Virtio 1.4 draft, "Split Virtqueues"; that the areas lie apart is this
 -- project's own). Sums are those of numbers and never wrap.
-use Rattle.std.specs.Prelude.{ℕ, ◌+◌, ◌%◌, ◌^◌, ◌<◌, ◌≤◌, ◌==◌, ◌&&◌, ◌||◌, Bool, not, nat_lt, nat_le, if◌then◌else◌, Option, Some, None}
+use Rattle.std.specs.Prelude.{ℕ, ◌+◌, ◌%◌, ◌^◌, ◌<◌, ◌≤◌, ◌==◌, ◌&&◌, ◌||◌, ◌⊎◌, Bool, not, nat_lt, nat_le, if◌then◌else◌, Option, Some, None}
 use Rattle.std.specs.Int.{is_power_of_two}
 use Rattle.split_queue.specs.Layout.{table_bytes, available_bytes, used_bytes}
 use Rattle.split_queue.specs.declared.place.Place.{Place}
@@ -45,10 +45,17 @@ setup_fault place mem_len =
     else (if not (all_lie_in place mem_len) then Some setup.Area
     else (if some_meet place then Some setup.Overlap else None)))
 
+-- the areas share no byte: one ends before the other begins
+abbrev pub LieApart : Area → Area → Type 0
+LieApart a b = (a.start + a.len ≤ b.start) ⊎ (b.start + b.len ≤ a.start)
+
 -- what every queue that was set up knows of its place: each area lies in the memory, and they lie apart
 pub record IsPlaced (place : Place) (mem_len : ℕ) : Type 0 where
   pub some : 0 < place.size
   pub table : place.desc + table_bytes place.size ≤ mem_len
   pub available : place.avail + available_bytes place.size ≤ mem_len
   pub used : place.used + used_bytes place.size ≤ mem_len
+  pub table_available : LieApart (table_area place) (available_area place)
+  pub table_used : LieApart (table_area place) (used_area place)
+  pub available_used : LieApart (available_area place) (used_area place)
   pub short : mem_len < 2 ^ 64

@@ -1,8 +1,9 @@
 //! The device's end of a queue.
-ghost use Rattle.std.specs.Prelude.{◌≡◌, ◌↔◌, None, length, IfOk, IfSome, MatchOption, OnErr};
+ghost use Rattle.std.specs.Prelude.{◌≡◌, ◌↔◌, All, None, length, IfOk, IfSome, MatchOption, OnErr};
 ghost use Rattle.std.specs.Result.{result_err};
 ghost use Rattle.split_queue.specs.Layout.{available_idx};
 ghost use Rattle.split_queue.specs.Setup.{setup_fault, IsPlaced};
+ghost use Rattle.split_queue.specs.Scatter.{PieceLiesIn};
 ghost use Rattle.split_queue.specs.Walks.{HasWalk};
 ghost use Rattle.split_queue.specs.Rings.{fresh_end, popped, after_pop, after_push, with_used, ChangesOnlyUsed};
 
@@ -61,6 +62,7 @@ impl DeviceEnd {
         ensures answer { result ≡ popped mem.now self.old.place self.old.next }
         ensures none { (result ≡ Ok None) ↔ (available_idx mem.now self.old.place ≡ self.old.next) }
         ensures walk { IfOk result (λ chain. IfSome chain (HasWalk mem.now self.old.place)) }
+        ensures inside { IfOk result (λ chain. IfSome chain (λ c. All (PieceLiesIn (length mem.now)) c.writable.items)) }
         ensures ok { IfOk result (λ chain. MatchOption chain (self.new ≡ self.old) (λ _. self.new ≡ after_pop self.old)) }
         ensures err { OnErr result (self.new ≡ self.old) }
     {
@@ -90,6 +92,7 @@ fn next_chain(mem: &GuestMem, place: Place, index: u16) -> Result<Option<Chain>,
     ensures answer { result ≡ popped mem.now place index }
     ensures none { (result ≡ Ok None) ↔ (available_idx mem.now place ≡ index) }
     ensures walk { IfOk result (λ chain. IfSome chain (HasWalk mem.now place)) }
+    ensures inside { IfOk result (λ chain. IfSome chain (λ c. All (PieceLiesIn (length mem.now)) c.writable.items)) }
 {
     let idx = le16(mem, place.avail + 2);
     if idx == index {

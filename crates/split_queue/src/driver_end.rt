@@ -1,8 +1,10 @@
 //! The driver's end of a queue.
-ghost use Rattle.std.specs.Prelude.{◌≡◌, ◌+◌, ◌^◌, ◌<◌, ◌≤◌, Some, None, length, replicate, reverse, slice_index, IfOk, IfErr, IfSome, OnOk, OnErr, MatchOption};
+ghost use Rattle.std.specs.Prelude.{◌≡◌, ◌+◌, ◌^◌, ◌<◌, ◌≤◌, Some, None, All, length, replicate, reverse, slice_index, IfOk, IfErr, IfSome, OnOk, OnErr, MatchOption};
 ghost use Rattle.split_queue.specs.Setup.{setup_fault, IsPlaced};
 ghost use Rattle.split_queue.specs.Pools.{owner_of, out_count};
-ghost use Rattle.split_queue.specs.Drivers.{ClearsArea, ClearsRings, ChangesOnlyFree, ChangesOnlySlot, ChangesOnlyPosted, given, link, with_descriptors, with_available, post_answer, posted, after_given, after_post, taken, after_take};
+ghost use Rattle.split_queue.specs.Drivers.{ClearsArea, ClearsRings, ChangesOnlyFree, ChangesOnlySlot, ChangesOnlyPosted, given, link, with_descriptors, with_available, post_answer, posted, after_given, after_post, taken, after_take, IsEnd};
+ghost use Rattle.split_queue.specs.Rings.{QueueEnd, fresh_end, popped};
+ghost use Rattle.split_queue.specs.Agreement.{Agree, ArePostable, chain_of_pieces};
 ghost use Rattle.split_queue.specs.declared.setup.SetupErr.{SetupErr};
 
 use crate::chain::Piece;
@@ -45,6 +47,9 @@ impl DriverEnd {
         ensures ok { IfOk result (λ end. (end.place ≡ place) × (end.mem_len ≡ length mem.new) × (end.next ≡ 0) × (end.used ≡ 0)) }
         ensures free { IfOk result (λ end. (end.pool.owners ≡ replicate place.size None) × (length end.pool.free ≡ place.size)) }
         ensures memory { OnOk result (ClearsRings mem.old mem.new place) }
+
+        // It agrees with the device's end that starts at index 0.
+        ensures agree { IfOk result (λ end. Agree end (fresh_end place (length mem.new) 0) mem.new) }
         ensures err { OnErr result (mem.new ≡ mem.old) }
     {
         let mem_len = mem.len();
@@ -64,6 +69,13 @@ impl DriverEnd {
         })
     }
 
+    /// What every end keeps: its queue lies in the memory, and its free descriptors are distinct ones of the queue.
+    pub fn keeps(&self)
+        ensures { IsEnd self.now }
+    {
+        let _ = self.pool.free_len();
+    }
+
     /// Makes a chain available: the first `readable` pieces are for the device to read, the others for it to write. It gives
     /// the chain's head, and refuses where fewer descriptors are free than there are pieces.
     pub fn post(
@@ -80,6 +92,11 @@ impl DriverEnd {
         ensures was_free { IfOk result (λ head. (head < self.old.place.size) × (owner_of self.old.pool.owners head ≡ None)) }
         ensures memory { OnOk result (mem.new ≡ posted mem.old self.old pieces.now readable) }
         ensures others { OnOk result (ChangesOnlyPosted mem.old mem.new self.old.place self.old.pool.owners self.old.next) }
+
+        // A device's end that agrees pops just these pieces: the readable ones' bytes, joined, and the writable ones.
+        ensures pops { IfOk result (λ head. (device : QueueEnd) → Agree self.old device mem.old
+            → ArePostable (length mem.old) self.old.place pieces.now readable
+            → popped mem.new device.place device.next ≡ Ok (Some (chain_of_pieces mem.old head pieces.now readable))) }
         ensures state { OnOk result (self.new ≡ after_post self.old (length pieces.now)) }
         ensures err { OnErr result (self.new ≡ self.old) }
         ensures err_memory { OnErr result (mem.new ≡ mem.old) }
@@ -177,6 +194,7 @@ fn put_chain(
     ensures others { ChangesOnlyFree mem.old mem.new place pool.old.owners }
     ensures pool { pool.new ≡ after_given pool.old (length pieces.now) }
     ensures sized { length pool.new.owners ≡ place.size }
+    ensures lens { All (λ p. p.len < 2 ^ 32) pieces.now }
 {
     for (i, piece) in pieces.iter().enumerate() {
         let number = pool.claim(head);
@@ -188,7 +206,8 @@ fn put_chain(
 /// The descriptor of a piece, of which on so many are readable, where these follow it.
 fn make_link(piece: Piece, readable: usize, later: &[Piece], pool: &Pool) -> Descriptor
     requires { length later.now ≤ length pool.now.free }
-    ensures { result ≡ link piece readable later.now (given (length later.now) pool.now.free) }
+    ensures value { result ≡ link piece readable later.now (given (length later.now) pool.now.free) }
+    ensures small { piece.len < 2 ^ 32 }
 {
     let last = later.is_empty();
     let direction = if readable == 0 { WRITE } else { 0 };

@@ -9,10 +9,13 @@
 //! one element and the index. [`DriverEnd::post`] writes the descriptors of a chain, its head and the available index, and
 //! nothing else; [`DriverEnd::take`] takes back what the device gave back. No call but [`DriverEnd::new`] takes memory.
 //!
+//! Both ends of a fresh queue agree, and bytes outside of the queue don't change that. After a round of post, pop, push and
+//! take they agree again: the take gives the chain that was pushed, and its descriptors are free ([`rounds_keep_agreement`]).
+//!
 //! The modules, lowest first: `place` (where a queue lies), `setup` (whether it may lie there), `descriptor`, `chain`
 //! (what a device gets), `walk` (from a head to a chain), `device_end`; `pool` (which descriptors are free), `driver_err`,
-//! `driver_end`. The definitions stand in specs/: `Layout`, `Setup`, `Chains` (a chain or its first fault), `Walks` (what the
-//! walk is, in its own words), `Scatter`, `Rings`, `Pools`, `Drivers`.
+//! `driver_end`, `laws` (of both ends together). The definitions stand in specs/: `Layout`, `Setup`, `Chains` (a chain or its
+//! first fault), `Walks` (what the walk is, in its own words), `Scatter`, `Rings`, `Pools`, `Drivers`, `Agreement`.
 #![tactic(auto)]
 
 mod chain;
@@ -20,6 +23,7 @@ mod descriptor;
 mod device_end;
 mod driver_end;
 mod driver_err;
+mod laws;
 mod place;
 mod pool;
 mod setup;
@@ -31,6 +35,7 @@ pub use chain::{Chain, Piece};
 pub use device_end::DeviceEnd;
 pub use driver_end::DriverEnd;
 pub use driver_err::{DriverErr, PostErr, TakeErr};
+pub use laws::{other_bytes_keep_agreement, rounds_keep_agreement, writable_pieces_keep_the_queue};
 pub use place::Place;
 pub use setup::SetupErr;
 pub use walk::RingErr;

@@ -1,6 +1,6 @@
 //! The descriptors of a driver's table: which are free, and which are out in which chain.
 ghost use Rattle.std.specs.Prelude.{◌≡◌, ◌+◌, ◌^◌, ◌<◌, ◌∷◌, ◌++◌, [], Some, None, replicate, length, reverse, slice_index, slice_set, if◌then◌else◌, IsSome, IfOk};
-ghost use Rattle.split_queue.specs.Pools.{owner_of, owned_by, heads_chain, after_release, out_count};
+ghost use Rattle.split_queue.specs.Pools.{owner_of, owned_by, heads_chain, after_release, out_count, IsFreeList};
 
 use std::alloc::{AllocError, Global};
 use std::marker::Model;
@@ -46,6 +46,8 @@ impl Pool {
         ensures value { result ≡ length self.now.free }
         ensures counted { out_count self.now.owners + result ≡ length self.now.owners }
         ensures small { result < 2 ^ 16 }
+        ensures listed { IsFreeList self.now.owners self.now.free }
+        ensures numbered { length self.now.owners < 2 ^ 16 }
     {
         self.free.len()
     }

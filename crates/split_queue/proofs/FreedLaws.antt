@@ -1,0 +1,58 @@
+-- A chain that comes back frees at least the descriptors that it got.
+use Rattle.std.proofs.Common.{◌≡◌, ℕ, zero, suc, ◌+◌, ◌-◌, ◌<◌, ◌≤◌, true, false, cond, List, [], ◌∷◌, ◌++◌, length, length-append, length-take, take, reverse, get_or, Option, Some, None, refl, sym, ap, ◌∙◌, subst, arith}
+use Rattle.std.specs.List.{count_by}
+use Rattle.std.proofs.Math.ListN.{set}
+use Rattle.std.proofs.lemmas.Bool.{eq-eqb}
+use Rattle.std.proofs.lemmas.List.{reverse-append, take_all, take_more}
+use Rattle.std.proofs.lemmas.List.Sums.{sum_by-set, sum_by-cons}
+use Rattle.split_queue.specs.Pools.{PoolState, owned_by, owned_places, owner_of, IsFreeList, after_release}
+use Rattle.split_queue.specs.Drivers.{given, owners_with, after_given}
+use Rattle.split_queue.proofs.PoolLaws.{last_free, IsFreeList-pop}
+
+-- how many descriptors are out in the chain of a head
+abbrev owned_count : ℕ → List (Option ℕ) → ℕ
+owned_count head owners = count_by (owned_by head) owners
+
+abbrev weight : ℕ → Option ℕ → ℕ
+weight head content = cond (owned_by head content) 1 0
+
+length-owned_places : (head from : ℕ) (owners : List (Option ℕ)) → length (owned_places head from owners) ≡ owned_count head owners
+length-owned_places head from [] = refl
+length-owned_places head from (o ∷ owners) =
+    let later = length-owned_places head (from + 1) owners in
+    elim (owned_by head o) as (λ b. length (cond b (from ∷ owned_places head (from + 1) owners) (owned_places head (from + 1) owners)) ≡ cond b 1 0 + owned_count head owners) [ true ↦ omega (arith, later) | false ↦ omega (arith, later) ]
+    ∙ sym (sum_by-cons (weight head) o owners)
+
+owned_count-claim : (head : ℕ) (owners : List (Option ℕ)) (number : ℕ) → number < length owners → owner_of owners number ≡ None → owned_count head (set owners number (Some head)) ≡ owned_count head owners + 1
+owned_count-claim head owners number below none =
+    let count = rw (none, eq-eqb head head refl) at (sum_by-set (weight head) owners number (Some head) None below) in
+    omega (arith, count)
+
+-- the free list's last, and what stands before it
+before-last : (free : List ℕ) → 0 < length free → free ≡ take (length free - 1) free ++ get_or free (length free - 1) 0 ∷ []
+before-last free some =
+    let one : length free - 1 + 1 ≡ length free = omega arith in
+    sym (take_all (length free) free (omega arith)) ∙ ap (λ k. take k free) (sym one) ∙ take_more free (length free - 1) 0 (omega arith)
+
+given-owned : (count head : ℕ) (owners : List (Option ℕ)) (free : List ℕ) → IsFreeList owners free → count ≤ length free → count + owned_count head owners ≤ owned_count head (owners_with owners (given count free) head)
+given-owned zero head owners free listed enough = omega arith
+given-owned (suc count) head owners free listed enough =
+    let rest = take (length free - 1) free in
+    let number = get_or free (length free - 1) 0 in
+    let is : free ≡ rest ++ number ∷ [] = before-last free (omega arith) in
+    let listed_now = subst (IsFreeList owners) is listed in
+    let last = last_free owners rest number listed_now in
+    let len : length free ≡ length rest + 1 = ap length is ∙ length-append rest (number ∷ []) in
+    let backwards : reverse free ≡ number ∷ reverse rest = ap reverse is ∙ reverse-append rest (number ∷ []) in
+    let given_now : given (suc count) free ≡ number ∷ given count rest = rw backwards refl in
+    let later = given-owned count head (set owners number (Some head)) rest (IsFreeList-pop owners rest number head listed_now) (omega arith) in
+    rw given_now (omega (arith, later, owned_count-claim head owners number last.0 last.1))
+
+-- after a chain of so many went out and came back, no fewer are free
+pub freed-enough : (pool : PoolState) (count head : ℕ) → IsFreeList pool.owners pool.free → count ≤ length pool.free → head ≡ get_or (reverse pool.free) 0 0 → length pool.free ≤ length (after_release (after_given pool count) head).free
+freed-enough pool count head listed enough is_head =
+    let owners = owners_with pool.owners (given count pool.free) (get_or (reverse pool.free) 0 0) in
+    let owned = given-owned count head pool.owners pool.free listed enough in
+    let owned_now = rw is_head at owned in
+    let left : length (take (length pool.free - count) pool.free) ≡ length pool.free - count = omega (arith, length-take (length pool.free - count) pool.free) in
+    rw is_head (omega (arith, left, length-append (take (length pool.free - count) pool.free) (owned_places (get_or (reverse pool.free) 0 0) 0 owners), length-owned_places (get_or (reverse pool.free) 0 0) 0 owners, owned_now))
