@@ -56,14 +56,14 @@ hex_digits-parsed text digits r same hex h =
     let plain = ap without_leading_plus same ∙ without_leading_plus_none digits (hex_digits-no_plus digits hex) in
     parsed (without_leading_plus text) digits r plain (hex_digits-numeral digits hex) h
 
--- a group of at most four digits has 16 bits
-pub hex_number-small : (digits : List ℕ) (n : ℕ) → hex_number digits ≡ Some n → length digits ≤ 4 → n < 65536
+-- a number of at most so many digits
+pub hex_number-small : (most : ℕ) (digits : List ℕ) (n : ℕ) → hex_number digits ≡ Some n → length digits ≤ most → n < 16 ^ most
 unfolding hex_number
-hex_number-small digits n read short =
+hex_number-small most digits n read short =
     let test = are_hex_digits digits && ltb (digits_value 16 digits) (2 ^ 64) in
     ⊎_elim (λ yes. let value : digits_value 16 digits ≡ n = cc (cond-true test (Some (digits_value 16 digits)) None yes) in
     let hex : are_hex_digits digits ≡ true = (and_parts _ _ yes).0 in
-    let power : 16 ^ length digits ≤ 16 ^ 4 = pow-le-pow_right {n = 16} (omega arith) short in
+    let power : 16 ^ length digits ≤ 16 ^ most = pow-le-pow_right {n = 16} (omega arith) short in
     omega (arith, value, power, digits_value-lt 16 digits (hex_digits-numeral digits hex).1))
     (λ no. absurd (cc (cond-false test (Some (digits_value 16 digits)) None no)))
     (cases_Bool test)

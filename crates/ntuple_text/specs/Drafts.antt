@@ -1,5 +1,5 @@
 -- The options of a line, read word by word from the left, up to the first fault.
-use Rattle.std.specs.Prelude.{ℕ, ◌<◌, Bool, if◌then◌else◌, is_some, List, [], ◌∷◌, codes, Option, Some, None, option_map, IfSome, Result, Ok, Err}
+use Rattle.std.specs.Prelude.{ℕ, Bool, if◌then◌else◌, is_some, List, [], ◌∷◌, codes, Option, Some, None, option_map, Result, Ok, Err}
 use Rattle.std.specs.Str.{bytes_eq}
 use Rattle.ntuple_text.specs.Keys.{is_in, form_of, key_of}
 use Rattle.ntuple_text.specs.Steps.{and_then}
@@ -20,10 +20,6 @@ use Rattle.ntuple_text.specs.declared.spec.TableDo.{TableDo}
 -- before the first option
 abbrev pub draft_of : Flow → Draft
 draft_of flow = record { flow = flow; src = None; dst = None; proto = None; class = None; src_port = None; dst_port = None; action = None; loc = None; awaits = OptionWord }
-
--- the location, where one is given, is below 1,024
-abbrev pub IsInside : Draft → Type 0
-IsInside draft = IfSome draft.loc (λ loc. loc < 1024)
 
 -- the part that stands for a field
 abbrev pub part_of : Draft → Field → Option Part

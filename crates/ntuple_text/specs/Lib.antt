@@ -4,6 +4,7 @@ pub mod Keys
 pub mod Numerals
 pub mod Pieces
 pub mod SpecTexts
+pub mod Spellable
 pub mod Steps
 pub mod TableLines
 pub mod TableMaps

@@ -1,7 +1,7 @@
 //! The options of a line, read word by word.
-ghost use Rattle.std.specs.Prelude.{◌≡◌, IfOk, is_some, option_map};
+ghost use Rattle.std.specs.Prelude.{◌≡◌, is_some, option_map};
 ghost use Rattle.vnff_base.specs.Lines.{words_of};
-ghost use Rattle.ntuple_text.specs.Drafts.{IsInside, awaiting, draft_of, judged, marked, masked, named, once, part_of, read_options, read_word, skipping, valued, with_action, with_part};
+ghost use Rattle.ntuple_text.specs.Drafts.{awaiting, draft_of, judged, marked, masked, named, once, part_of, read_options, read_word, skipping, valued, with_action, with_part};
 ghost use Rattle.ntuple_text.specs.Keys.{key_of};
 ghost use Rattle.ntuple_text.specs.TableLines.{spec_with};
 
@@ -77,9 +77,7 @@ impl Draft {
 
     /// The options of a line's words, after those of the draft, up to the first fault.
     pub(crate) fn options(self, line: &[u8], pairs: u8) -> Result<Draft, Fault>
-        requires { IsInside self }
-        ensures value { result ≡ read_options pairs self (words_of line.now) }
-        ensures inside { IfOk result IsInside }
+        ensures { result ≡ read_options pairs self (words_of line.now) }
     {
         let mut draft = self;
         let mut rest = line;
@@ -93,9 +91,7 @@ impl Draft {
     // One more word.
     #[tactic(auto, unfolding(crate::specs::Drafts::read_word))]
     fn word(self, word: &[u8], pairs: u8) -> Result<Draft, Fault>
-        requires { IsInside self }
-        ensures value { result ≡ read_word pairs self word.now }
-        ensures inside { IfOk result IsInside }
+        ensures { result ≡ read_word pairs self word.now }
     {
         match self.awaits {
             Awaits::OptionWord => self.named(word),
@@ -106,9 +102,7 @@ impl Draft {
     }
 
     fn marked(self, field: Field, word: &[u8]) -> Result<Draft, Fault>
-        requires { IsInside self }
-        ensures value { result ≡ marked self field word.now }
-        ensures inside { IfOk result IsInside }
+        ensures { result ≡ marked self field word.now }
     {
         if word == b"m".as_slice() {
             Ok(self.awaiting(Awaits::Mask(field)))
@@ -118,9 +112,7 @@ impl Draft {
     }
 
     fn named(self, word: &[u8]) -> Result<Draft, Fault>
-        requires { IsInside self }
-        ensures value { result ≡ named self (key_of word.now) }
-        ensures inside { IfOk result IsInside }
+        ensures { result ≡ named self (key_of word.now) }
     {
         match key_named(word) {
             Some(key) => self.judged(key),
@@ -130,9 +122,7 @@ impl Draft {
 
     #[tactic(auto, unfolding(crate::specs::Drafts::judged))]
     fn judged(self, key: Key) -> Result<Draft, Fault>
-        requires { IsInside self }
-        ensures value { result ≡ judged self key }
-        ensures inside { IfOk result IsInside }
+        ensures { result ≡ judged self key }
     {
         match key {
             Key::Field(field) => {
@@ -147,9 +137,7 @@ impl Draft {
     }
 
     fn once(self, stood: bool, key: Key) -> Result<Draft, Fault>
-        requires { IsInside self }
-        ensures value { result ≡ once self stood key }
-        ensures inside { IfOk result IsInside }
+        ensures { result ≡ once self stood key }
     {
         if stood {
             Err(Fault::Twice)
@@ -160,9 +148,7 @@ impl Draft {
 
     #[tactic(auto, unfolding(crate::specs::Drafts::valued))]
     fn valued(self, key: Key, word: &[u8], pairs: u8) -> Result<Draft, Fault>
-        requires { IsInside self }
-        ensures value { result ≡ valued pairs self key word.now }
-        ensures inside { IfOk result IsInside }
+        ensures { result ≡ valued pairs self key word.now }
     {
         match key {
             Key::Field(field) => {
@@ -185,9 +171,7 @@ impl Draft {
 
     #[tactic(auto, unfolding(crate::specs::Drafts::masked))]
     fn masked(self, field: Field, word: &[u8]) -> Result<Draft, Fault>
-        requires { IsInside self }
-        ensures value { result ≡ masked self field word.now }
-        ensures inside { IfOk result IsInside }
+        ensures { result ≡ masked self field word.now }
     {
         let mask = value(word, self.flow.form(field))?;
         let part = with_skip(self.part(field), mask);
@@ -225,8 +209,7 @@ impl Draft {
     }
 
     fn with_part(self, field: Field, part: Option<Part>) -> Draft
-        ensures value { result ≡ with_part self field part }
-        ensures same_loc { result.loc ≡ self.loc }
+        ensures { result ≡ with_part self field part }
     {
         match field {
             Field::SrcMac | Field::SrcIp => Draft { src: part, ..self },

@@ -6,20 +6,18 @@
 //!
 //! It promises that [`read_table`] gives the table of a text, or its first bad line with that line's first fault, from left
 //! to right; and that [`put_spec`] and [`put_table`] write the canonical line of a spec, and those of a table by rising
-//! location, or a front of them where the output failed.
+//! location, or a front of them where the output failed. What they write is read as the same spec, and as the same table.
 //!
 //! Definitions, in specs/: `Numerals`, `Pieces` and `Addresses` (how numbers and addresses are spelled), `Keys` (flows,
 //! fields and their words), `Values` (of an option), `Drafts` (the options of a line), `TableMaps` (a table by location),
-//! `TableLines` (what a line does, and a whole text) and `SpecTexts` (canonical lines). Worked examples stand in
-//! `proofs/ValueExamples.antt`, `proofs/TableExamples.antt` and `proofs/TextExamples.antt`.
-//! [`laws`] has a law that stands on no other call: each value of a field is read back from its canonical spelling.
+//! `TableLines` (what a line does, and a whole text), `SpecTexts` (canonical lines) and `Spellable` (what every table holds).
+//! Worked examples stand in `proofs/ValueExamples.antt`, `proofs/TableExamples.antt` and `proofs/TextExamples.antt`.
 #![tactic(auto)]
 
 mod address;
 mod draft;
 mod fault;
 mod key;
-pub mod laws;
 mod numeral;
 mod piece;
 mod put;

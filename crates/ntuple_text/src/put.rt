@@ -1,8 +1,12 @@
 //! Specs and tables, written as canonical lines.
-ghost use Rattle.std.specs.Prelude.{◌≡◌, ◌++◌, ◌∷◌, []};
+ghost use Rattle.std.specs.Prelude.{◌≡◌, ◌++◌, ◌∷◌, ◌≤◌, []};
 ghost use Rattle.std.specs.List.{flat_map};
+ghost use Rattle.vnff_base.specs.Lines.{word_lines, words_of};
 ghost use Rattle.vnff_base.specs.Outputs.{Writes};
 ghost use Rattle.ntuple_text.specs.SpecTexts.{action_text, field_text, field_word, fields_of, flow_word, given_text, loc_text, mask_text, options_text, part_text, queue_text, skip_text, slot_text, spec_part, spec_text, table_text, value_text};
+ghost use Rattle.ntuple_text.specs.Spellable.{IsSpellable};
+ghost use Rattle.ntuple_text.specs.TableLines.{after_line, table_of};
+ghost use Rattle.ntuple_text.specs.TableMaps.{TableMap, with_spec};
 
 use crate::key::Field;
 use crate::put_piece::{put_form, put_mac, put_number, put_type};
@@ -10,9 +14,10 @@ use crate::spec::{Flow, Part, Spec, TableDo};
 use crate::table::Table;
 use vnff_base::{Failed, Out};
 
-/// Writes the lines of a table, by rising location.
+/// Writes the lines of a table, by rising location. Read for the same queue pairs, they give the table again.
 pub fn put_table<O: Out>(out: &mut O, table: &Table) -> Result<(), Failed>
-    ensures { Writes (O.told out.old) (O.told out.new) (O.faults out.old) (O.faults out.new) (table_text table.now) result }
+    ensures written { Writes (O.told out.old) (O.told out.new) (O.faults out.old) (O.faults out.new) (table_text table.now) result }
+    ensures read_back { table_of table.now.pairs (word_lines (table_text table.now)) ≡ Ok table.now }
 {
     put_slots(out, table.slots())
 }
@@ -48,7 +53,11 @@ fn put_line<O: Out>(out: &mut O, spec: &Spec) -> Result<(), Failed>
 /// action and the location, with single spaces. A mask is written where it skips a bit.
 #[tactic(auto, unfolding(crate::specs::SpecTexts::spec_text))]
 pub fn put_spec<O: Out>(out: &mut O, spec: &Spec) -> Result<(), Failed>
-    ensures { Writes (O.told out.old) (O.told out.new) (O.faults out.old) (O.faults out.new) (spec_text spec.now) result }
+    ensures written { Writes (O.told out.old) (O.told out.new) (O.faults out.old) (O.faults out.new) (spec_text spec.now) result }
+
+    // The line of a spec that lines can spell puts just this spec into any table.
+    ensures read_back { (table : TableMap) → table.pairs ≤ 16 → IsSpellable table.pairs spec.now
+        → after_line table (words_of (spec_text spec.now)) ≡ Ok (with_spec table spec.now) }
 {
     out.put(b"flow-type ")?;
     put_flow(out, spec.flow)?;

@@ -1,7 +1,7 @@
 //! Tables read from text, line by line.
-ghost use Rattle.std.specs.Prelude.{◌≡◌, ◌<◌, ◌≤◌, ◌⊎◌, Ok, Err, IfOk, IfSome, MatchResult, length};
+ghost use Rattle.std.specs.Prelude.{◌≡◌, ◌≤◌, ◌⊎◌, Ok, Err, IfOk, MatchResult, length};
 ghost use Rattle.vnff_base.specs.Lines.{word_lines, words_of};
-ghost use Rattle.ntuple_text.specs.Drafts.{IsInside};
+ghost use Rattle.ntuple_text.specs.Spellable.{IsSpellable};
 ghost use Rattle.ntuple_text.specs.TableLines.{after_line, after_lines, closed, deleted, directed, is_flag, place_of, spec_of, table_of, without_command};
 
 use crate::draft::{Awaits, Draft};
@@ -99,7 +99,7 @@ fn delete(table: &mut Table, line: &[u8]) -> Result<(), Fault>
 #[tactic(auto, unfolding(crate::specs::TableLines::spec_of))]
 fn read_spec(table: &Table, line: &[u8]) -> Result<Spec, Fault>
     ensures value { result ≡ spec_of table.now (words_of line.now) }
-    ensures inside { IfOk result (λ spec. spec.loc < 1024) }
+    ensures spellable { IfOk result (λ spec. IsSpellable table.now.pairs spec) }
 {
     let Some((word, rest)) = first_word(line) else {
         return Err(Fault::Word);
@@ -113,9 +113,7 @@ fn read_spec(table: &Table, line: &[u8]) -> Result<Spec, Fault>
 // The spec of a line's options, at the line's end.
 #[tactic(auto, unfolding(crate::specs::TableLines::closed))]
 fn close(table: &Table, draft: Draft) -> Result<Spec, Fault>
-    requires { IsInside draft }
-    ensures value { result ≡ closed table.now draft }
-    ensures inside { IfOk result (λ spec. spec.loc < 1024) }
+    ensures { result ≡ closed table.now draft }
 {
     if matches!(draft.awaits, Awaits::Value(_) | Awaits::Mask(_)) {
         return Err(Fault::Word);
@@ -131,9 +129,7 @@ fn close(table: &Table, draft: Draft) -> Result<Spec, Fault>
 
 // The location that is given, or the largest free one.
 fn place(table: &Table, loc: Option<u16>) -> Option<u16>
-    requires { IfSome loc (λ loc. loc < 1024) }
-    ensures value { result ≡ place_of table.now loc }
-    ensures inside { IfSome result (λ loc. loc < 1024) }
+    ensures { result ≡ place_of table.now loc }
 {
     match loc {
         Some(loc) => Some(loc),

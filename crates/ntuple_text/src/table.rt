@@ -1,6 +1,7 @@
 //! A table of specs by location.
 ghost use Rattle.std.specs.Prelude.{◌≡◌, ◌<◌, ◌≤◌, IfOk, IfSome, count_by, is_some, length, vec_len};
 ghost use Rattle.std.specs.Option.{option_copied};
+ghost use Rattle.ntuple_text.specs.Spellable.{IsSpellable, IsTable};
 ghost use Rattle.ntuple_text.specs.TableMaps.{empty_table, free_slots, last_free, spec_at, spec_count, with_spec, without_spec};
 
 use crate::spec::Spec;
@@ -18,19 +19,21 @@ pub struct Table {
 }
 
 impl Model for Table {
-    ghost use Rattle.std.specs.Prelude.{◌≡◌, length};
     ghost use Rattle.ntuple_text.specs.TableMaps.{TableMap};
 
     ghost Value = { TableMap };
 
+    ghost use Rattle.ntuple_text.specs.Spellable.{IsTable};
+
     ghost view = { λ t. record { pairs = t.pairs; slots = t.slots.items } };
 
-    ghost invariant = { λ t. length t.slots.items ≡ 1024 };
+    ghost invariant = { λ t. IsTable t.pairs t.slots.items };
 }
 
 impl Table {
     /// A table without a spec, with the room of all locations.
     pub(crate) fn empty(alloc: Global, pairs: u8) -> Result<Table, AllocError>
+        requires { pairs ≤ 16 }
         ensures { IfOk result (λ table. table ≡ empty_table pairs) }
     {
         Ok(Table {
@@ -41,7 +44,8 @@ impl Table {
 
     /// The spec at a location, if one stands there.
     pub fn at(&self, loc: u16) -> Option<&Spec>
-        ensures { option_copied result ≡ spec_at self.now loc }
+        ensures value { option_copied result ≡ spec_at self.now loc }
+        ensures spellable { IfSome result (λ spec. IsSpellable self.now.pairs spec.now) }
     {
         match self.slots.get(usize::from(loc)) {
             Some(slot) => slot.as_ref(),
@@ -58,21 +62,23 @@ impl Table {
 
     /// The queue pairs that the table's queues are below.
     pub(crate) fn pairs(&self) -> u8
-        ensures { result ≡ self.now.pairs }
+        ensures value { result ≡ self.now.pairs }
+        ensures table { IsTable self.now.pairs self.now.slots }
     {
         self.pairs
     }
 
     /// What stands at each location, from 0 up.
     pub(crate) fn slots(&self) -> &[Option<Spec>]
-        ensures { result.now ≡ self.now.slots }
+        ensures value { result.now ≡ self.now.slots }
+        ensures table { IsTable self.now.pairs self.now.slots }
     {
         &self.slots
     }
 
     /// Puts a spec at its location, in the place of the one that stood there.
     pub(crate) fn set(&mut self, spec: Spec)
-        requires { spec.loc < 1024 }
+        requires { IsSpellable self.old.pairs spec }
         ensures { self.new ≡ with_spec self.old spec }
     {
         self.slots[usize::from(spec.loc)] = Some(spec);
@@ -88,8 +94,7 @@ impl Table {
 
     /// The largest free location.
     pub(crate) fn last_free(&self) -> Option<u16>
-        ensures value { result ≡ last_free self.now.slots }
-        ensures bound { IfSome result (λ loc. loc < 1024) }
+        ensures { result ≡ last_free self.now.slots }
     {
         match last_free(&self.slots) {
             Some(place) => Some(place as u16),

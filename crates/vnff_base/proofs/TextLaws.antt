@@ -87,7 +87,7 @@ words_of-written (word ∷ []) good = words_of-word word (All-head IsWord word [
 words_of-written (word ∷ next ∷ more) good =
     words_of-word_blank word (join_with_byte 32 (next ∷ more)) 32 (All-head IsWord word (next ∷ more) good) refl ∙ ap (λ rest. word ∷ rest) (words_of-written (next ∷ more) (All-tail IsWord word (next ∷ more) good))
 
-above_blanks : (byte : ℕ) → 33 ≤ byte → is_blank byte ≡ false
+pub above_blanks : (byte : ℕ) → 33 ≤ byte → is_blank byte ≡ false
 above_blanks byte high = or_from _ _ (ne_eqb byte 32 (λ e. omega arith)) (ne_eqb byte 9 (λ e. omega arith))
 
 -- a number as it is written is a word, and so are bytes in hexadecimal
@@ -99,7 +99,7 @@ IsWord-decimal n small =
       whole = All-from_get_or (λ byte. is_blank byte ≡ false) (decimal n) 0 (λ i inside. above_blanks (get_or (decimal n) i 0) (omega (arith, digit_at (decimal n) i digits.0.1 inside)));
     }
 
-digit_char-high : (d : ℕ) → 33 ≤ digit_char d
+pub digit_char-high : (d : ℕ) → 33 ≤ digit_char d
 digit_char-high d = ⊎_elim (λ e. omega arith) (λ e. omega arith) (cases_cond (nat_lt d 10) (48 + d) (87 + d) (digit_char d) refl)
 
 no_blank_in_pairs : (bytes : List ℕ) → All (λ byte. is_blank byte ≡ false) (flat_map hex_pair bytes)

@@ -1,0 +1,6 @@
+-- What a table's slots are is what its text needs to be read back.
+use Rattle.ntuple_text.proofs.TableReadBack.{table-read}
+use Rattle.ntuple_text.proofs.put.put_table.Goals as goal
+
+pub returns-clause-read_back : goal.returns-clause-read_back
+returns-clause-read_back g c = table-read c.args.table.now.pairs c.args.table.now.slots c.slots.ensures.table
