@@ -5,6 +5,7 @@ use Rattle.split_queue.specs.Layout.{le16_at, le32_at, le64_at, descriptor_at, w
 use Rattle.split_queue.specs.Setup.{setup_fault}
 use Rattle.split_queue.specs.Chains.{buffer_fault, next_fault, next_of, chain_from, chain_of}
 use Rattle.split_queue.specs.Rings.{popped, with_used}
+use Rattle.split_queue.specs.Walks.{fault_at}
 use Rattle.split_queue.specs.declared.place.Place.{Place}
 use Rattle.split_queue.specs.declared.setup.SetupErr.TheVariants as setup
 use Rattle.split_queue.specs.declared.walk.RingErr.TheVariants as fault
@@ -58,6 +59,16 @@ nothing_at_index_0 = refl
 loop : popped (memory 0) ring 65535 ≡ Err (fault.Loop 0)
 unfolding popped chain_of chain_from next_of buffer_fault next_fault descriptor_at le16_at le32_at le64_at memory ring
 loop = refl
+
+-- the same in the walk's words: descriptor 0 names itself
+loop_at_0 : fault_at (memory 0) ring (0 ∷ []) 0 ≡ Some (fault.Loop 0)
+unfolding fault_at buffer_fault next_fault descriptor_at le16_at le32_at le64_at memory ring
+loop_at_0 = refl
+
+-- the second descriptor of the chain above has none
+none_at_1 : fault_at (memory 1) ring (0 ∷ 1 ∷ []) 1 ≡ None
+unfolding fault_at buffer_fault next_fault descriptor_at le16_at le32_at le64_at memory ring
+none_at_1 = refl
 
 next_past_the_table : popped (memory 4) ring 65535 ≡ Err (fault.BadNext 0)
 unfolding popped chain_of chain_from next_of buffer_fault next_fault descriptor_at le16_at le32_at le64_at memory ring

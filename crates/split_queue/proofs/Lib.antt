@@ -1,8 +1,12 @@
 pub mod AgreementLaws
 pub mod ChainSteps
 mod Examples
+pub mod FaultLaws
 pub mod FreedLaws
+pub mod GatheredLaws
 pub mod GivenLaws
+pub mod NextLaws
+pub mod OutcomeLaws
 pub mod PiecesInside
 pub mod PoolLaws
 pub mod PostLaws

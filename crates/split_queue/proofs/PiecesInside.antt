@@ -8,7 +8,8 @@ use Rattle.split_queue.specs.Layout.{descriptor_at, has_next, is_writable, is_in
 use Rattle.split_queue.specs.Chains.{bare_chain, with_buffer, buffer_fault, next_fault, next_of, chain_from, chain_of}
 use Rattle.split_queue.specs.Scatter.{PieceLiesIn}
 use Rattle.split_queue.proofs.ChainSteps.{chain_from-fault, chain_from-last, chain_from-many, chain_from-next}
-use Rattle.split_queue.proofs.WalkLaws.{answered, buffer_pieces, same_chain}
+use Rattle.split_queue.proofs.NextLaws.{answered}
+use Rattle.split_queue.proofs.GatheredLaws.{buffer_pieces}
 use Rattle.split_queue.specs.declared.place.Place.{Place}
 use Rattle.split_queue.specs.declared.descriptor.Descriptor.{Descriptor}
 use Rattle.split_queue.specs.declared.chain.Chain.{Chain}
@@ -39,6 +40,9 @@ buffer-added mem chain d inside so_far =
       | true ↦ All-push (PieceLiesIn (length mem)) chain.writable.items (record { addr = d.addr; len = d.len }) so_far inside
       | false ↦ rw (append-nil chain.writable.items) so_far
     ])
+
+same_chain : (x y : Chain) (answer : Result Chain RingErr) → answer ≡ Ok x → answer ≡ Ok y → x ≡ y
+same_chain x y answer e f = cc
 
 inside-from : (mem : List ℕ) (place : Place) (more : ℕ) (visited : List ℕ) (number : ℕ) (chain out : Chain) (r : Result (Option ℕ) RingErr) → next_of mem place visited chain number ≡ r → All (PieceLiesIn (length mem)) chain.writable.items → chain_from mem place visited chain more number ≡ Ok out → All (PieceLiesIn (length mem)) out.writable.items
 inside-from mem place more visited number chain out (Err f) e so_far is_out = absurd (let no = sym (chain_from-fault mem place visited chain more number f e) ∙ is_out in cc)

@@ -18,7 +18,8 @@ use Rattle.split_queue.proofs.ReadLaws.{bytes_at-same}
 use Rattle.split_queue.proofs.GivenLaws.{IsFreeList-given, IsFreeList-below, length-given}
 use Rattle.split_queue.proofs.RingLaws.{with_descriptors-changes, with_available-changes, with_available-idx}
 use Rattle.split_queue.proofs.PostedDescriptors.{FitsFields, AreLinked, AreLinked-same, with_descriptors-linked, with_available-head}
-use Rattle.split_queue.proofs.PostedWalk.{chain_with, fresh_more, chain_from-linked}
+use Rattle.split_queue.proofs.GatheredLaws.{chain_with}
+use Rattle.split_queue.proofs.PostedWalk.{fresh_more, chain_from-linked}
 use Rattle.split_queue.specs.declared.place.Place.{Place}
 use Rattle.split_queue.specs.declared.chain.Chain.{Chain}
 use Rattle.split_queue.specs.declared.chain.Piece.{Piece}

@@ -15,7 +15,8 @@ use Rattle.split_queue.specs.Scatter.{room_of, PieceLiesIn}
 use Rattle.split_queue.specs.Drivers.{link}
 use Rattle.split_queue.proofs.ChainSteps.{chain_from-last, chain_from-next}
 use Rattle.split_queue.proofs.PostedDescriptors.{AreLinked}
-use Rattle.split_queue.proofs.WalkLaws.{answered}
+use Rattle.split_queue.proofs.GatheredLaws.{chain_with}
+use Rattle.split_queue.proofs.NextLaws.{answered}
 use Rattle.split_queue.specs.declared.place.Place.{Place}
 use Rattle.split_queue.specs.declared.descriptor.Descriptor.{Descriptor}
 use Rattle.split_queue.specs.declared.chain.Chain.{Chain}
@@ -44,10 +45,6 @@ module _ (piece : Piece) (readable : ℕ) (later : List Piece) (numbers : List �
   ]
 
 -- ---- what was gathered
-
--- the chain of a head that holds these bytes and these writable pieces
-abbrev pub chain_with : ℕ → List ℕ → List Piece → Chain
-chain_with head bytes pieces = record { head = head; readable = record { items = bytes }; writable = record { items = pieces } }
 
 -- the chain with these pieces as well, of which so many are readable
 abbrev pub with_pieces : List ℕ → Chain → List Piece → ℕ → Chain

@@ -3,6 +3,7 @@ pub mod Chains
 pub mod Drivers
 pub mod Layout
 pub mod Pools
+pub mod Refusals
 pub mod Rings
 pub mod Scatter
 pub mod Setup

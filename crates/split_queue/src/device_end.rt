@@ -1,10 +1,11 @@
 //! The device's end of a queue.
-ghost use Rattle.std.specs.Prelude.{◌≡◌, ◌↔◌, All, None, length, IfOk, IfSome, MatchOption, OnErr};
+ghost use Rattle.std.specs.Prelude.{◌≡◌, ◌↔◌, All, None, length, IfOk, IfErr, IfSome, MatchOption, OnErr};
 ghost use Rattle.std.specs.Result.{result_err};
 ghost use Rattle.split_queue.specs.Layout.{available_idx};
 ghost use Rattle.split_queue.specs.Setup.{setup_fault, IsPlaced};
 ghost use Rattle.split_queue.specs.Scatter.{PieceLiesIn};
 ghost use Rattle.split_queue.specs.Walks.{HasWalk};
+ghost use Rattle.split_queue.specs.Refusals.{IsRingFault};
 ghost use Rattle.split_queue.specs.Rings.{fresh_end, popped, after_pop, after_push, with_used, ChangesOnlyUsed};
 
 use crate::chain::Chain;
@@ -63,6 +64,7 @@ impl DeviceEnd {
         ensures none { (result ≡ Ok None) ↔ (available_idx mem.now self.old.place ≡ self.old.next) }
         ensures walk { IfOk result (λ chain. IfSome chain (HasWalk mem.now self.old.place)) }
         ensures inside { IfOk result (λ chain. IfSome chain (λ c. All (PieceLiesIn (length mem.now)) c.writable.items)) }
+        ensures fault { IfErr result (IsRingFault mem.now self.old.place self.old.next) }
         ensures ok { IfOk result (λ chain. MatchOption chain (self.new ≡ self.old) (λ _. self.new ≡ after_pop self.old)) }
         ensures err { OnErr result (self.new ≡ self.old) }
     {
@@ -93,6 +95,7 @@ fn next_chain(mem: &GuestMem, place: Place, index: u16) -> Result<Option<Chain>,
     ensures none { (result ≡ Ok None) ↔ (available_idx mem.now place ≡ index) }
     ensures walk { IfOk result (λ chain. IfSome chain (HasWalk mem.now place)) }
     ensures inside { IfOk result (λ chain. IfSome chain (λ c. All (PieceLiesIn (length mem.now)) c.writable.items)) }
+    ensures fault { IfErr result (IsRingFault mem.now place index) }
 {
     let idx = le16(mem, place.avail + 2);
     if idx == index {

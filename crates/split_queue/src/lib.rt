@@ -15,7 +15,8 @@
 //! The modules, lowest first: `place` (where a queue lies), `setup` (whether it may lie there), `descriptor`, `chain`
 //! (what a device gets), `walk` (from a head to a chain), `device_end`; `pool` (which descriptors are free), `driver_err`,
 //! `driver_end`, `laws` (of both ends together). The definitions stand in specs/: `Layout`, `Setup`, `Chains` (a chain or its
-//! first fault), `Walks` (what the walk is, in its own words), `Scatter`, `Rings`, `Pools`, `Drivers`, `Agreement`.
+//! first fault), `Walks` (what the walk is, in its own words), `Refusals` (what each fault says, in the same words),
+//! `Scatter`, `Rings`, `Pools`, `Drivers`, `Agreement`.
 #![tactic(auto)]
 
 mod chain;

@@ -4,7 +4,7 @@
 //! without memory for the words the program ends as wherever memory runs out.
 #![tactic(auto)]
 
-ghost use Rattle.std.specs.Prelude.{◌≤◌};
+ghost use Rattle.std.specs.Prelude.{◌≡◌, ◌≤◌, ◌⊎◌, IfErr};
 
 use std::env;
 use std::io::ErrorKind;
@@ -20,7 +20,9 @@ const FAULTY_WORDS: u8 = 2;
 const NO_MEMORY: u8 = 5;
 
 /// The words behind the program's own name, or the exit status where there are none to run on.
-fn words<R: Env + AllocGlobal>(rt: &R) -> Result<Vec<String>, u8> {
+fn words<R: Env + AllocGlobal>(rt: &R) -> Result<Vec<String>, u8>
+    ensures { IfErr result (λ status. (status ≡ FAULTY_WORDS) ⊎ (status ≡ NO_MEMORY)) }
+{
     match env::args(rt) {
         Ok(args) => args.skip(1).collect(rt.alloc()).map_err(|_| NO_MEMORY),
         Err(fault) if fault.kind() == ErrorKind::InvalidData => Err(FAULTY_WORDS),
@@ -29,7 +31,9 @@ fn words<R: Env + AllocGlobal>(rt: &R) -> Result<Vec<String>, u8> {
 }
 
 /// Runs the program over real files and standard output, and gives its exit status.
-fn run<R: Env + Files + Print + AllocGlobal>(rt: &R) -> u8 {
+fn run<R: Env + Files + Print + AllocGlobal>(rt: &R) -> u8
+    ensures { result ≤ 5 }
+{
     match words(rt) {
         Ok(words) => plain(
             rt.alloc(),
