@@ -1,13 +1,12 @@
 //! Numbers of a table: decimal, or hexadecimal after `0x`.
 ghost use Rattle.std.specs.Prelude.{◌≡◌, ◌≤◌, ◌<◌, ◌^◌, length, IsTrue, IfOk};
-ghost use Rattle.std.specs.Char.{is_ascii_digit, is_ascii_hexdigit};
-ghost use Rattle.std.specs.List.{list_all};
+ghost use Rattle.std.specs.Char.{is_ascii_digit};
 ghost use Rattle.std.specs.Option.{SomeIff};
 ghost use Rattle.std.specs.Str.Parse.{digits_value};
 ghost use Rattle.ntuple_text.specs.Numerals.{are_hex_digits, hex_number, is_hexadecimal, is_octal, numeral_of, numeral_to, spelled_number};
 
 use crate::fault::Fault;
-use vnff_base::num_read;
+use vnff_base::{is_hex, num_read};
 
 /// The number that a word spells, which is to be at most `most`.
 #[tactic(auto, unfolding(crate::specs::Numerals::numeral_to))]
@@ -72,13 +71,7 @@ pub(crate) fn hex_number(digits: &[u8]) -> Option<u64>
 fn are_hex_digits(digits: &[u8]) -> bool
     ensures { result ≡ are_hex_digits digits.now }
 {
-    !digits.is_empty() && all_hex(digits)
-}
-
-fn all_hex(digits: &[u8]) -> bool
-    ensures { result ≡ list_all is_ascii_hexdigit digits.now }
-{
-    digits.iter().all(|digit| digit.is_ascii_hexdigit())
+    !digits.is_empty() && is_hex(digits)
 }
 
 // The number of a word of hexadecimal digits.

@@ -1,6 +1,5 @@
 //! Addresses and numbers, put to an output.
 ghost use Rattle.std.specs.Prelude.{◌≡◌, ◌<◌, ◌/◌, ◌%◌, length, decimal, slice_index, drop, ◌++◌};
-ghost use Rattle.std.specs.Char.{digit_char};
 ghost use Rattle.std.specs.List.{flat_map};
 ghost use Rattle.vnff_base.specs.Outputs.{Writes};
 ghost use Rattle.ntuple_text.specs.SpecTexts.{four_digits, form_text, ipv4_text, ipv6_text, leading_zeros, mac_text, next_piece, piece_text, pieces_text, type_text};
@@ -8,7 +7,7 @@ ghost use Rattle.ntuple_text.specs.SpecTexts.{four_digits, form_text, ipv4_text,
 use crate::key::Form;
 use crate::piece::Spelling;
 use itoa::Buffer;
-use vnff_base::{Failed, Out};
+use vnff_base::{Failed, Out, hex_digit};
 
 /// Writes a value in its form.
 #[tactic(auto, unfolding(crate::specs::SpecTexts::form_text))]
@@ -166,21 +165,9 @@ fn digits(number: u128) -> [u8; 4]
     ensures { result ≡ four_digits number }
 {
     [
-        digit(number / 4096 % 16),
-        digit(number / 256 % 16),
-        digit(number / 16 % 16),
-        digit(number % 16),
+        hex_digit((number / 4096 % 16) as u8),
+        hex_digit((number / 256 % 16) as u8),
+        hex_digit((number / 16 % 16) as u8),
+        hex_digit((number % 16) as u8),
     ]
-}
-
-// The digit of four bits.
-fn digit(value: u128) -> u8
-    requires { value < 16 }
-    ensures { result ≡ digit_char value }
-{
-    if value < 10 {
-        b'0' + value as u8
-    } else {
-        b'a' + (value - 10) as u8
-    }
 }

@@ -51,10 +51,11 @@ fn is_dash(word: &[u8]) -> bool
 fn is_pairs(word: &[u8]) -> bool
     ensures { result ≡ are_pairs word.now }
 {
-    word.len() % 2 == 0 && are_digits(word)
+    word.len() % 2 == 0 && is_hex(word)
 }
 
-fn are_digits(word: &[u8]) -> bool
+/// Whether each byte of a word is a hexadecimal digit, of either case.
+pub fn is_hex(word: &[u8]) -> bool
     ensures { result ≡ list_all is_ascii_hexdigit word.now }
 {
     word.iter().all(|byte| byte.is_ascii_hexdigit())

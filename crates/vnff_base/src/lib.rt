@@ -29,13 +29,13 @@ pub mod text;
 pub mod whole_file;
 
 pub use dir_shelf::DirShelf;
-pub use hex::{HexErr, hex_read};
+pub use hex::{HexErr, hex_read, is_hex};
 pub use list::List;
 pub use mem_out::MemOut;
 pub use mem_shelf::MemShelf;
 pub use number::num_read;
 pub use out::{Failed, Out};
-pub use put_hex::hex_put;
+pub use put_hex::{hex_digit, hex_put};
 pub use shelf::Shelf;
 pub use std_out::StdOut;
 pub use text::{Line, LineReader, first_line, first_word, word_at, word_count};

@@ -43,20 +43,20 @@ fn spell(bytes: &[u8], digits: &mut [u8])
     ensures { take (2 * length bytes.now) digits.new ≡ flat_map hex_pair bytes.now }
 {
     for (place, byte) in bytes.iter().enumerate() {
-        digits[2 * place] = digit(*byte / 16);
-        digits[2 * place + 1] = digit(*byte % 16);
+        digits[2 * place] = hex_digit(*byte / 16);
+        digits[2 * place + 1] = hex_digit(*byte % 16);
     }
 }
 
-/// The digit of four bits.
-fn digit(value: u8) -> u8
-    requires { value < 16 }
-    ensures { result ≡ digit_char value }
+/// The hexadecimal digit of four bits, in lower case.
+pub fn hex_digit(bits: u8) -> u8
+    requires { bits < 16 }
+    ensures { result ≡ digit_char bits }
 {
-    if value < 10 {
-        b'0' + value
+    if bits < 10 {
+        b'0' + bits
     } else {
-        b'a' + (value - 10)
+        b'a' + (bits - 10)
     }
 }
 
