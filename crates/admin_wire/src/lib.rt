@@ -11,9 +11,10 @@
 //! What is promised, for every list of bytes:
 //! - `read_command` gives the one command that the bytes lay out, or their first fault, in the order of
 //!   `WireErr`; of the opcodes, a create alone is read so far, and any other is answered as an unknown one;
-//! - what it gives is a create exactly where the bytes begin with that create's layout, field by field;
+//! - what it gives is a create whose list and key aren't odd exactly where the bytes begin with that create's layout, field by
+//!   field;
 //! - `put_reply` writes the reply's bytes, cut to the room;
-//! - no call takes memory, and each returns.
+//! - each call returns; none asks for memory.
 //!
 //! The definitions are in `specs/`: `Wire` has the layout of a command as a whole (`command_of`), over
 //! `Objects` (what a create carries), `Lists` (selectors), `Numbers` and `Faults`. `Creates` says the layout

@@ -22,10 +22,14 @@ fn kinds_have_codes(rt: HostRuntime) -> Result<(), Fail> {
 #[test]
 fn a_masked_rule_matches(rt: HostRuntime) -> Result<(), Fail> {
     let selector = Selector::new(Kind::Eth, 1, &TYPE_MASK);
-    let list = [selector];
+    assert_eq!(rt; selector.kind(), Kind::Eth);
+    assert_eq!(rt; selector.flags(), 1);
+    assert_eq!(rt; selector.mask(), TYPE_MASK.as_slice());
+    let list = [selector.copy()];
     let selectors = Selectors::of(&list).ok().ok_or("shape")?;
     assert_eq!(rt; selectors.key_size(), 14);
     assert_eq!(rt; selectors.as_slice().len(), 1);
+    assert_eq!(rt; selectors.copy(), selectors);
 
     let mut key = Key::new();
     let bytes = [241, 9, 9, 9, 9, 9, 9, 9, 9, 9, 9, 9, 8, 0];

@@ -1,6 +1,6 @@
 //! The memory of a guest.
 ghost use Rattle.std.specs.Prelude.{◌≡◌, replicate, length, IfOk, OnOk, OnErr};
-ghost use Rattle.guest_mem.specs.Memory.{access_answer, bytes_at, with_bytes, WritesAt};
+ghost use Rattle.guest_mem.specs.Memory.{IsBytes, access_answer, bytes_at, with_bytes, WritesAt};
 
 use crate::mem_err::MemErr;
 use std::alloc::{AllocError, Global};
@@ -14,10 +14,13 @@ pub struct GuestMem {
 
 impl Model for GuestMem {
     ghost use Rattle.std.specs.Prelude.{ℕ, List};
+    ghost use Rattle.guest_mem.specs.Memory.{IsBytes};
 
     ghost Value = { List ℕ };
 
     ghost view = { λ m. m.bytes.items };
+
+    ghost invariant = { λ m. IsBytes m.bytes.items };
 }
 
 impl GuestMem {
@@ -35,6 +38,13 @@ impl GuestMem {
         Ok(GuestMem {
             bytes: vec![in alloc; 0; len]?,
         })
+    }
+
+    /// What every memory keeps: its numbers are bytes.
+    pub fn keeps(&self)
+        ensures { IsBytes self.now }
+    {
+        let _ = self.bytes.len();
     }
 
     /// How many bytes there are.

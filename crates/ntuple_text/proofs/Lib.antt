@@ -10,6 +10,7 @@ pub mod Ipv6Lemmas
 pub mod LineReadBack
 pub mod NumeralLemmas
 pub mod OptionSteps
+pub mod PairsLemmas
 pub mod PieceLemmas
 pub mod PlainLemmas
 pub mod RangeLemmas

@@ -72,10 +72,11 @@ free_slots-size : (count : ℕ) → length (free_slots count) ≡ count
 unfolding free_slots
 free_slots-size count = length-replicate count None
 
-pub table-empty : (pairs : ℕ) (slots : List (Option Spec)) → slots ≡ free_slots 1024 → pairs ≤ 16 → IsTable pairs slots
-table-empty pairs slots is few =
+pub table-empty : (pairs : ℕ) (slots : List (Option Spec)) → slots ≡ free_slots 1024 → 1 ≤ pairs → pairs ≤ 16 → IsTable pairs slots
+table-empty pairs slots is some few =
     record {
       size = ap length is ∙ free_slots-size 1024;
+      some = some;
       few = few;
       spelled = λ loc. at-spelled pairs loc (get_or slots loc None) None (ap (λ slots. get_or slots loc None) is ∙ free_slots-none_at 1024 loc) tt;
     }
@@ -89,9 +90,9 @@ slot-set pairs place loc slots spec h is spellable =
 
 pub table-set : (pairs place : ℕ) (slots : List (Option Spec)) (spec : Spec) → IsTable pairs slots → place ≡ spec.loc → IsSpellable pairs spec → IsTable pairs (set slots place (Some spec))
 table-set pairs place slots spec h is spellable =
-    record { size = length-set slots place (Some spec) ∙ h.size; few = h.few; spelled = λ loc. slot-set pairs place loc slots spec h is spellable }
+    record { size = length-set slots place (Some spec) ∙ h.size; some = h.some; few = h.few; spelled = λ loc. slot-set pairs place loc slots spec h is spellable }
 
--- what stands at a location is such a spec
-pub table-at : (pairs loc : ℕ) (slots : List (Option Spec)) (found : Option (Bor Spec)) → IsTable pairs slots → option_copied found ≡ get_or slots loc None → IfSome found (λ spec. IsSpellable pairs spec.now)
+-- what stands at a location is such a spec, of this location
+pub table-at : (pairs loc : ℕ) (slots : List (Option Spec)) (found : Option (Bor Spec)) → IsTable pairs slots → option_copied found ≡ get_or slots loc None → IfSome found (λ spec. (spec.now.loc ≡ loc) × IsSpellable pairs spec.now)
 table-at pairs loc slots None h is = tt
-table-at pairs loc slots (Some spec) h is = (at-spelled pairs loc (Some spec.now) (get_or slots loc None) is (h.spelled loc)).1
+table-at pairs loc slots (Some spec) h is = at-spelled pairs loc (Some spec.now) (get_or slots loc None) is (h.spelled loc)

@@ -60,8 +60,10 @@ pub record IsSpellable (pairs : ℕ) (spec : Spec) : Type 0 where
   pub action : IsActionOf pairs spec.action
   pub loc : spec.loc < 1024
 
--- every table: it has 1,024 locations, and what stands at one is a spec of this location that a line can spell
+-- every table: it is for 1 to 16 queue pairs and has 1,024 locations, and what stands at one is a spec of this location that
+-- a line can spell
 pub record IsTable (pairs : ℕ) (slots : List (Option Spec)) : Type 0 where
   pub size : length slots ≡ 1024
+  pub some : 1 ≤ pairs
   pub few : pairs ≤ 16
   pub spelled : (loc : ℕ) → IfSome (slice_index_or slots loc None) (λ spec. (spec.loc ≡ loc) × IsSpellable pairs spec)

@@ -2,46 +2,32 @@
 ghost use Rattle.std.specs.Prelude.{◌≡◌};
 ghost use Rattle.ntuple_text.specs.TableLines.{fault_at};
 
-use thiserror::Error;
-
 /// Why a text gives no table: its first bad line, counted from 1, and that line's first fault.
-#[derive(Clone, Copy, Debug, PartialEq, Eq, Error)]
+#[derive(Clone, Copy, Debug, PartialEq, Eq)]
 pub enum TextErr {
     /// A word that is unknown, missing or too much.
-    #[error("line {0}: a word that is unknown, missing or too much")]
     Word(u32),
     /// A word that is no number, or a number out of its field's range.
-    #[error("line {0}: no number of the field's range")]
     Number(u32),
     /// A number that begins with `0` and a decimal digit, which ethtool reads as octal.
-    #[error("line {0}: an octal number")]
     Octal(u32),
     /// A word that is no MAC, IPv4 or IPv6 address, where one is wanted.
-    #[error("line {0}: no address")]
     Address(u32),
     /// An option that stood before in the line; `action` and `queue` are one option.
-    #[error("line {0}: an option stands twice")]
     Twice(u32),
     /// A field that the flow does not have.
-    #[error("line {0}: a field that the flow does not have")]
     NotInFlow(u32),
     /// The line gives no action.
-    #[error("line {0}: no action")]
     NoAction(u32),
     /// A receive queue that is not below the queue pairs.
-    #[error("line {0}: no such queue")]
     Queue(u32),
     /// A location above 1023.
-    #[error("line {0}: a location above 1023")]
     Loc(u32),
     /// The removal of a location where no spec stands.
-    #[error("line {0}: no spec stands at the location")]
     NoSuchLoc(u32),
     /// The line gives no location, and none is free.
-    #[error("line {0}: no location is free")]
     TableFull(u32),
     /// Memory ran out.
-    #[error("out of memory")]
     Memory,
 }
 

@@ -6,7 +6,8 @@
 //!
 //! It promises that [`read_table`] gives the table of a text, or its first bad line with that line's first fault, from left
 //! to right; and that [`put_spec`] and [`put_table`] write the canonical line of a spec, and those of a table by rising
-//! location, or a front of them where the output failed. What they write is read as the same spec, and as the same table.
+//! location, or a front of them where the output failed. What they write is read as the same table, and, of a spec that
+//! lines can spell, as the same spec.
 //!
 //! Definitions, in specs/: `Numerals`, `Pieces` and `Addresses` (how numbers and addresses are spelled), `Keys` (flows,
 //! fields and their words), `Values` (of an option), `Drafts` (the options of a line), `TableMaps` (a table by location),

@@ -256,20 +256,45 @@ fn put_loc<O: Out>(out: &mut O, loc: u16) -> Result<(), Failed>
 #[cfg(test)]
 mod tests {
     use super::*;
+    use crate::fault::TextErr;
     use crate::read::read_table;
+    use std::alloc::Global;
     use std::test::Fail;
     use vnff_base::MemOut;
 
+    // Tables for four queue pairs, and their canonical texts.
     #[test]
     fn writes_canonical_lines(rt: HostRuntime) -> Result<(), Fail> {
-        let text =
-            b"flow-type ip6 src-ip ::A m ::f loc 4 action 0\nflow-type ether proto 2054 m 0xff00 action -1 loc 3";
-        let table = read_table(rt.alloc(), text, 4)?;
-        let mut out = MemOut::new(rt.alloc(), 256)?;
-        assert_eq!(rt; put_table(&mut out, &table), Ok(()));
-        let lines =
-            b"flow-type ether proto 0x0806 m 0xff00 action -1 loc 3\nflow-type ip6 src-ip 0:0:0:0:0:0:0:a m 0:0:0:0:0:0:0:f action 0 loc 4\n";
-        assert!(rt; out.bytes() == lines.as_slice());
+        let cases: [(&[u8], &[u8]); 2] = [
+            (
+                b"flow-type ip6 src-ip ::A m ::f loc 4 action 0\nflow-type ether proto 2054 m 0xff00 action -1 loc 3",
+                b"flow-type ether proto 0x0806 m 0xff00 action -1 loc 3\nflow-type ip6 src-ip 0:0:0:0:0:0:0:a m 0:0:0:0:0:0:0:f action 0 loc 4\n",
+            ),
+            (
+                b"flow-type ether dst 2:0:0:0:0:1 proto 0x0806 action -1 loc 3\nflow-type ip6 src-ip ::1 action 0 loc 2",
+                b"flow-type ip6 src-ip 0:0:0:0:0:0:0:1 action 0 loc 2\nflow-type ether dst 02:00:00:00:00:01 proto 0x0806 action -1 loc 3\n",
+            ),
+        ];
+        for (text, lines) in cases {
+            let mut out = MemOut::new(rt.alloc(), 256)?;
+            let table = table_read(rt.alloc(), text)?;
+            assert_eq!(rt; put_table(&mut out, &table), Ok(()));
+            assert!(rt; out.bytes() == lines);
+        }
+        Ok(())
+    }
+
+    // The table of a text.
+    fn table_read(alloc: Global, text: &[u8]) -> Result<Table, TextErr> {
+        if text.len() > 256 {
+            return Err(TextErr::Memory);
+        }
+        read_table(alloc, text, 4)
+    }
+
+    #[test]
+    fn a_full_output_takes_no_line(rt: HostRuntime) -> Result<(), Fail> {
+        let table = read_table(rt.alloc(), b"flow-type ip4 action 0 loc 3", 4)?;
         let spec = table.at(3).ok_or("a spec")?;
         let mut line = MemOut::new(rt.alloc(), 8)?;
         assert_eq!(rt; put_spec(&mut line, spec), Err(Failed));

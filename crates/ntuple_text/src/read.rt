@@ -20,8 +20,9 @@ pub fn read_table(alloc: Global, text: &[u8], pairs: u8) -> Result<Table, TextEr
     requires text { length text.now ≤ 67108864 }
     requires some_pairs { 1 ≤ pairs }
     requires most_pairs { pairs ≤ 16 }
-    ensures { MatchResult result (λ table. table_of pairs (word_lines text.now) ≡ Ok table)
+    ensures read { MatchResult result (λ table. table_of pairs (word_lines text.now) ≡ Ok table)
         (λ err. (err ≡ TextErr.Memory) ⊎ (table_of pairs (word_lines text.now) ≡ Err err)) }
+    ensures pairs { IfOk result (λ table. table.pairs ≡ pairs) }
 {
     let mut table = match Table::empty(alloc, pairs) {
         Ok(table) => table,
@@ -208,6 +209,30 @@ mod tests {
         for (text, err) in cases {
             assert_eq!(rt; refusal(rt.alloc(), text), Some(err));
         }
+    }
+
+    // The table of so many lines that give no location, for four queue pairs.
+    fn table_of_lines(alloc: Global, count: usize) -> Result<Table, TextErr> {
+        let mut text = String::new(alloc);
+        for _ in 0..count {
+            if text.push_str("flow-type ip4 action 0\n").is_err() {
+                return Err(TextErr::Memory);
+            }
+        }
+        let bytes = text.as_bytes();
+        if bytes.len() > 67_108_864 {
+            return Err(TextErr::Memory);
+        }
+        read_table(alloc, bytes, 4)
+    }
+
+    #[test]
+    fn a_full_table_takes_no_line(rt: HostRuntime) -> Result<(), Fail> {
+        let full = table_of_lines(rt.alloc(), 1024)?;
+        assert_eq!(rt; full.len(), 1024);
+        let refused = table_of_lines(rt.alloc(), 1025).err();
+        assert_eq!(rt; refused, Some(TextErr::TableFull(1025)));
+        Ok(())
     }
 
     #[test]

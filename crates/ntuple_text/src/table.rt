@@ -5,11 +5,9 @@ ghost use Rattle.ntuple_text.specs.Spellable.{IsSpellable, IsTable};
 ghost use Rattle.ntuple_text.specs.TableMaps.{empty_table, free_slots, last_free, spec_at, spec_count, with_spec, without_spec};
 
 use crate::spec::Spec;
+use crate::value::LOCATIONS;
 use std::alloc::{AllocError, Global};
 use std::marker::Model;
-
-/// How many locations a table has.
-const LOCATIONS: usize = 1024;
 
 /// A table of at most one spec for each of the locations 0 to 1023, for so many queue pairs.
 #[derive(Debug, Drop)]
@@ -33,19 +31,20 @@ impl Model for Table {
 impl Table {
     /// A table without a spec, with the room of all locations.
     pub(crate) fn empty(alloc: Global, pairs: u8) -> Result<Table, AllocError>
-        requires { pairs ≤ 16 }
+        requires some_pairs { 1 ≤ pairs }
+        requires most_pairs { pairs ≤ 16 }
         ensures { IfOk result (λ table. table ≡ empty_table pairs) }
     {
         Ok(Table {
             pairs,
-            slots: free_slots(alloc, LOCATIONS)?,
+            slots: free_slots(alloc, LOCATIONS as usize)?,
         })
     }
 
     /// The spec at a location, if one stands there.
     pub fn at(&self, loc: u16) -> Option<&Spec>
         ensures value { option_copied result ≡ spec_at self.now loc }
-        ensures spellable { IfSome result (λ spec. IsSpellable self.now.pairs spec.now) }
+        ensures spellable { IfSome result (λ spec. (spec.now.loc ≡ loc) × IsSpellable self.now.pairs spec.now) }
     {
         match self.slots.get(usize::from(loc)) {
             Some(slot) => slot.as_ref(),
@@ -55,7 +54,8 @@ impl Table {
 
     /// How many specs there are.
     pub fn len(&self) -> usize
-        ensures { result ≡ spec_count self.now }
+        ensures value { result ≡ spec_count self.now }
+        ensures most { result ≤ 1024 }
     {
         count(&self.slots)
     }

@@ -1,9 +1,10 @@
--- A chain that comes back frees at least the descriptors that it got.
+-- A chain that comes back frees each of its descriptors, and at least those that it got.
 use Rattle.std.proofs.Common.{◌≡◌, ℕ, zero, suc, ◌+◌, ◌-◌, ◌<◌, ◌≤◌, true, false, cond, List, [], ◌∷◌, ◌++◌, length, length-append, length-take, take, reverse, get_or, Option, Some, None, refl, sym, ap, ◌∙◌, subst, arith}
-use Rattle.std.specs.List.{count_by}
+use Rattle.std.specs.List.{count_by, Contains}
 use Rattle.std.proofs.Math.ListN.{set}
 use Rattle.std.proofs.lemmas.Bool.{eq-eqb}
 use Rattle.std.proofs.lemmas.List.{reverse-append, take_all, take_more}
+use Rattle.std.proofs.lemmas.List.Elements.{Contains-append_right}
 use Rattle.std.proofs.lemmas.List.Sums.{sum_by-set, sum_by-cons}
 use Rattle.split_queue.specs.Pools.{PoolState, owned_by, owned_places, owner_of, IsFreeList, after_release}
 use Rattle.split_queue.specs.Drivers.{given, owners_with, after_given}
@@ -56,3 +57,22 @@ freed-enough pool count head listed enough is_head =
     let owned_now = rw is_head at owned in
     let left : length (take (length pool.free - count) pool.free) ≡ length pool.free - count = omega (arith, length-take (length pool.free - count) pool.free) in
     rw is_head (omega (arith, left, length-append (take (length pool.free - count) pool.free) (owned_places (get_or (reverse pool.free) 0 0) 0 owners), length-owned_places (get_or (reverse pool.free) 0 0) 0 owners, owned_now))
+
+-- a descriptor of the chain stands among those that come back
+owned_places-has : (head from : ℕ) (owners : List (Option ℕ)) (number : ℕ) → owner_of owners number ≡ Some head → Contains (owned_places head from owners) (from + number)
+owned_places-has head from [] number out = absurd (cc)
+owned_places-has head from (o ∷ owners) zero out = rw (out, eq-eqb head head refl) (0, omega arith, omega arith)
+owned_places-has head from (o ∷ owners) (suc number) out =
+    let at : from + 1 + number ≡ from + suc number = omega arith in
+    let later = subst (λ k. Contains (owned_places head (from + 1) owners) k) at (owned_places-has head (from + 1) owners number out) in
+    elim (owned_by head o) as (λ b. Contains (cond b (from ∷ owned_places head (from + 1) owners) (owned_places head (from + 1) owners)) (from + suc number)) [
+      | true ↦ Contains-append_right (from ∷ []) (owned_places head (from + 1) owners) (from + suc number) later
+      | false ↦ later
+    ]
+
+-- so it is in the free list
+pub freed-listed : (pool : PoolState) (head number : ℕ) → owner_of pool.owners number ≡ Some head → Contains (after_release pool head).free number
+freed-listed pool head number out =
+    let at : 0 + number ≡ number = omega arith in
+    let back = subst (λ k. Contains (owned_places head 0 pool.owners) k) at (owned_places-has head 0 pool.owners number out) in
+    Contains-append_right pool.free (owned_places head 0 pool.owners) number back

@@ -1,5 +1,5 @@
--- What the walk from a head is, in its own words: the longest list of distinct descriptors that begins with the head and in
--- which each one is named by the one before it (Virtio 1.4 draft, "The Virtqueue Descriptor Table"; which faults there are,
+-- What a walk from a head is, in its own words: distinct descriptors from the head on, each one named by the one before it.
+-- A chain holds the buffers of the longest walk (Virtio 1.4 draft, "The Virtqueue Descriptor Table"; which faults there are,
 -- and their order, are this project's own).
 use Rattle.std.specs.Prelude.{◌≡◌, ◌≢◌, ℕ, suc, ◌+◌, ◌<◌, ◌≤◌, ◌==◌, ◌&&◌, true, if◌then◌else◌, List, [], ◌∷◌, length, take, slice_index, Option, Some, None}
 use Rattle.std.specs.List.{flat_map}

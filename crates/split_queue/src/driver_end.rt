@@ -1,5 +1,5 @@
 //! The driver's end of a queue.
-ghost use Rattle.std.specs.Prelude.{◌≡◌, ◌+◌, ◌^◌, ◌<◌, ◌≤◌, Some, None, All, length, replicate, reverse, slice_index, IfOk, IfErr, IfSome, OnOk, OnErr, MatchOption};
+ghost use Rattle.std.specs.Prelude.{◌≡◌, ℕ, ◌+◌, ◌^◌, ◌<◌, ◌≤◌, Some, None, All, Contains, length, replicate, reverse, slice_index, IfOk, IfErr, IfSome, OnOk, OnErr, MatchOption};
 ghost use Rattle.split_queue.specs.Setup.{setup_fault, IsPlaced};
 ghost use Rattle.split_queue.specs.Pools.{owner_of, out_count};
 ghost use Rattle.split_queue.specs.Drivers.{ClearsArea, ClearsRings, ChangesOnlyFree, ChangesOnlySlot, ChangesOnlyPosted, given, link, with_descriptors, with_available, post_answer, posted, after_given, after_post, taken, after_take, IsEnd};
@@ -118,6 +118,10 @@ impl DriverEnd {
         requires { length mem.now ≡ self.old.mem_len }
         ensures answer { result ≡ taken mem.now self.old.place self.old.pool self.old.used }
         ensures ok { IfOk result (λ element. MatchOption element (self.new ≡ self.old) (λ e. self.new ≡ after_take self.old e.0)) }
+
+        // Each descriptor that was out in the chain is in no chain then, and stands in the free list.
+        ensures freed { IfOk result (λ element. IfSome element (λ e. (number : ℕ) → owner_of self.old.pool.owners number ≡ Some e.0 → owner_of self.new.pool.owners number ≡ None)) }
+        ensures listed { IfOk result (λ element. IfSome element (λ e. (number : ℕ) → owner_of self.old.pool.owners number ≡ Some e.0 → Contains self.new.pool.free number)) }
         ensures err { OnErr result (self.new ≡ self.old) }
     {
         let element = next_used(mem, self.place, &self.pool, self.used)?;

@@ -10,7 +10,8 @@
 //! nothing else; [`DriverEnd::take`] takes back what the device gave back. No call but [`DriverEnd::new`] takes memory.
 //!
 //! Both ends of a fresh queue agree, and bytes outside of the queue don't change that. After a round of post, pop, push and
-//! take they agree again: the take gives the chain that was pushed, and its descriptors are free ([`rounds_keep_agreement`]).
+//! take they agree again: the take gives the chain that was pushed, and no fewer descriptors are free than before
+//! ([`rounds_keep_agreement`]).
 //!
 //! The modules, lowest first: `place` (where a queue lies), `setup` (whether it may lie there), `descriptor`, `chain`
 //! (what a device gets), `walk` (from a head to a chain), `device_end`; `pool` (which descriptors are free), `driver_err`,

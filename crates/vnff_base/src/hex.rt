@@ -98,6 +98,7 @@ mod tests {
 
     #[test]
     fn either_case(rt: HostRuntime) -> Result<(), Fail> {
+        assert!(rt; is_hex(b"00aFfE"));
         assert_eq!(rt;
             hex_read(rt.alloc(), b"00aFfE")?.as_slice(),
             [0, 0xaf, 0xfe].as_slice()

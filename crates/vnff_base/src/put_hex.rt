@@ -68,6 +68,7 @@ mod tests {
 
     #[test]
     fn spells_bytes(rt: HostRuntime) -> Result<(), Fail> {
+        assert_eq!(rt; hex_digit(11), b'b');
         let mut out = MemOut::new(rt.alloc(), 256)?;
         assert_eq!(rt; hex_put(&mut out, &[]), Ok(()));
         assert_eq!(rt; hex_put(&mut out, &[0x00, 0x5a, 0xf9]), Ok(()));

@@ -159,6 +159,15 @@ mod tests {
         0, 0, 0, 0, 0, 0, 0, 0, 0, 0, 0, 0, 0, 0, 8, 0,
     ];
 
+    const LIMITS: Limits = Limits {
+        groups: 2,
+        classifiers: 4,
+        rules: 8,
+        per_group: 8,
+        last_priority: 15,
+        selectors: 3,
+    };
+
     fn create(alloc: Global, data: &[u8]) -> Result<Vec<u8>, AllocError> {
         let mut bytes = Vec::from_slice(alloc, &HEADER)?;
         bytes.extend_from_slice(data)?;
@@ -167,15 +176,7 @@ mod tests {
 
     #[test]
     fn creates_a_rule(rt: HostRuntime) -> Result<(), Fail> {
-        let limits = Limits {
-            groups: 2,
-            classifiers: 4,
-            rules: 8,
-            per_group: 8,
-            last_priority: 15,
-            selectors: 3,
-        };
-        let caps = DeviceCaps::with_all_selectors(4, limits);
+        let caps = DeviceCaps::with_all_selectors(4, LIMITS);
         let mut device = Device::new(rt.alloc(), caps, Start::Ready)?;
         for data in [&GROUP[..], &CLASSIFIER[..], &RULE[..]] {
             let command = create(rt.alloc(), data)?;
@@ -183,12 +184,35 @@ mod tests {
             assert_eq!(rt; reply.as_slice(), [0; 8].as_slice());
             device.commit(effect);
         }
-        assert_eq!(rt; device.objects().group_priority(1), Some(5));
-        assert_eq!(rt; device.objects().rules().len(), 1);
+        let objects = device.objects();
+        assert_eq!(rt; objects.limits().rules, 8);
+        assert_eq!(rt; objects.group_priority(1), Some(5));
+        assert_eq!(rt; objects.selectors(7).is_some(), true);
+        assert_eq!(rt; objects.groups().len(), 1);
+        assert_eq!(rt; objects.classifiers().len(), 1);
+        assert_eq!(rt; objects.rules().len(), 1);
         let again = device.decide(&create(rt.alloc(), &GROUP)?, 8);
         assert_eq!(rt;
             again.reply.as_slice(),
             [17, 0, 3, 0, 0, 0, 0, 0].as_slice()
+        );
+        Ok(())
+    }
+
+    // Before the driver sets anything, a create's opcode isn't in use.
+    #[test]
+    fn starts_with_nothing_set(rt: HostRuntime) -> Result<(), Fail> {
+        let caps = DeviceCaps::with_all_selectors(4, LIMITS);
+        assert_eq!(rt; caps.pairs(), 4);
+        let all = DriverCaps::same_as(&caps);
+        assert_eq!(rt; all.limits().groups, caps.limits().groups);
+        assert!(rt; all.has_action(2));
+        assert!(rt; !DriverCaps::unset().has_action(2));
+        let device = Device::new(rt.alloc(), caps, Start::Reset)?;
+        let refused = device.decide(&create(rt.alloc(), &GROUP)?, 8);
+        assert_eq!(rt;
+            refused.reply.as_slice(),
+            [22, 0, 2, 0, 0, 0, 0, 0].as_slice()
         );
         Ok(())
     }

@@ -8,9 +8,9 @@
 //! What is promised, on `plain` itself: where the shelf tells its files and the output tells its bytes, the status and
 //! what was written are the outcome that is defined for the words and the files; a failed read or write, and want of
 //! memory, end a run earlier, and then a front of the defined text was written. Below it, each promised for itself: a
-//! [`Device`] is one step of the object machine for each command, refuses without a trace, and takes memory only when it is
-//! made; the search gives the first rule that matches; [`read_script`] is the
-//! part of the grammar that is built.
+//! [`Device`] is one step of the object machine for each command, and refuses without a trace; the search gives the first rule
+//! that matches; [`read_script`] is the part of the grammar that is built. No call on a [`Device`] but its making asks for
+//! memory.
 //!
 //! Definitions, in specs/: `Caps` and `States` (a device), `Refusals` and `Verdicts` (the verdict on a command), `Steps`
 //! (the machine and its runs), `Script` (the grammar), `Replay` (texts) and `Outcomes`. `Creates`, `LimitedObjects`,

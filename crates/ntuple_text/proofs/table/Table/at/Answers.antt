@@ -1,4 +1,4 @@
--- What stands at a location is a spec that a line can spell.
+-- What stands at a location is a spec of this location that a line can spell.
 use Rattle.std.proofs.Common.{rules, ◌≡◌, subst}
 use Rattle.std.specs.Option.{option_copied}
 use Rattle.ntuple_text.specs.Spellable.{IsTable}
