@@ -4,6 +4,7 @@ use Rattle.std.specs.Prelude.{is_some, IsSome, IsSomeAnd, fold}
 use Rattle.std.specs.Option.{option_map_or}
 use Rattle.std.specs.Ordering.{nat_cmp}
 use Rattle.std.specs.List.Sorted.{IsStrictlySortedBy}
+use Rattle.std.proofs.lemmas.Bool.{not-true}
 use Rattle.std.proofs.lemmas.Bool.Decides.{nat_tests}
 use Rattle.std.proofs.lemmas.List.Elements.{All-head, All-tail, All-take}
 use Rattle.ff_headers.specs.SelectorParts.{SelectorParts}
@@ -22,10 +23,6 @@ use Rattle.ff_headers.proofs.EntryLemmas.{held-put, IsById-put, length-put_le, l
 and_parts : (a b : Bool) → (a && b) ≡ true → (a ≡ true) × (b ≡ true)
 and_parts true b h = (refl, h)
 and_parts false b h = absurd cc
-
-not_parts : (b : Bool) → not b ≡ true → b ≡ false
-not_parts true h = absurd cc
-not_parts false h = refl
 
 apart : (q id : ℕ) → q ≢ id → eqb q id ≡ false
 apart q id h = grind (arith, nat_tests)
@@ -110,7 +107,7 @@ module _ (limits : Limits) (objects : FlowObjects) (was : IsWellFormed limits ob
   unfolding is_sound changed
   put_group id priority sound =
       let p = and_parts _ _ sound in
-      let free = not_parts _ p.1 in
+      let free = not-true _ p.1 in
       let sorted = was.by_id.groups_rise in
       record {
         by_id = record { groups_rise = IsById-put objects.groups id priority sorted; classifiers_rise = was.by_id.classifiers_rise; rules_rise = was.by_id.rules_rise };
@@ -132,7 +129,7 @@ module _ (limits : Limits) (objects : FlowObjects) (was : IsWellFormed limits ob
   drop_group : (id : ℕ) → is_sound limits objects (DropGroup id) ≡ true → IsWellFormed limits (changed objects (DropGroup id))
   unfolding is_sound changed
   drop_group id sound =
-      let unnamed = not_parts _ sound in
+      let unnamed = not-true _ sound in
       let sorted = was.by_id.groups_rise in
       record {
         by_id = record { groups_rise = IsById-without objects.groups id sorted; classifiers_rise = was.by_id.classifiers_rise; rules_rise = was.by_id.rules_rise };
@@ -150,7 +147,7 @@ module _ (limits : Limits) (objects : FlowObjects) (was : IsWellFormed limits ob
   classifier_free id sound = by_held (held objects.classifiers id) refl sound where
     by_held : (o : Option (List SelectorParts)) → held objects.classifiers id ≡ o → cond (is_some o) (not (names_classifier objects id)) (ltb (length objects.classifiers) limits.classifiers) ≡ true → ((is_some o || ltb (length objects.classifiers) limits.classifiers) ≡ true) × ((q : ℕ) (rule : RuleParts) → held objects.rules q ≡ Some rule → rule.classifier ≢ id)
     by_held None none room = (room, λ q rule h e. none_backs rule none e (was.backed q rule h))
-    by_held (Some s) some unnamed = (refl, λ q rule h. differs _ _ (fails_at_held (λ (e : ℕ × RuleParts). eqb e.1.classifier id) objects.rules q rule (not_parts _ unnamed) h))
+    by_held (Some s) some unnamed = (refl, λ q rule h. differs _ _ (fails_at_held (λ (e : ℕ × RuleParts). eqb e.1.classifier id) objects.rules q rule (not-true _ unnamed) h))
 
   put_classifier : (id : ℕ) (selectors : List SelectorParts) → HasShape selectors → is_sound limits objects (PutClassifier id selectors) ≡ true → IsWellFormed limits (changed objects (PutClassifier id selectors))
   unfolding is_sound changed
@@ -173,7 +170,7 @@ module _ (limits : Limits) (objects : FlowObjects) (was : IsWellFormed limits ob
   drop_classifier : (id : ℕ) → is_sound limits objects (DropClassifier id) ≡ true → IsWellFormed limits (changed objects (DropClassifier id))
   unfolding is_sound changed
   drop_classifier id sound =
-      let unnamed = not_parts _ sound in
+      let unnamed = not-true _ sound in
       let sorted = was.by_id.classifiers_rise in
       record {
         by_id = record { groups_rise = was.by_id.groups_rise; classifiers_rise = IsById-without objects.classifiers id sorted; rules_rise = was.by_id.rules_rise };

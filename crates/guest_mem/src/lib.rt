@@ -5,7 +5,7 @@
 //!
 //! [`GuestMem`] promises that a read gives the bytes at its address, that a write puts bytes there and leaves all others,
 //! and that either is refused exactly where it would pass the memory's end; then nothing is changed. No call but
-//! [`GuestMem::zeros`] takes memory of the host. The definitions that the contracts cite stand in `specs/Memory.antt`.
+//! [`GuestMem::zeros`] asks the host for memory. The definitions that the contracts cite stand in `specs/Memory.antt`.
 #![tactic(auto)]
 
 mod guest_mem;

@@ -1,14 +1,14 @@
 -- An IPv6 address that is written is read back.
 use Rattle.std.proofs.Common.{◌≡◌, ℕ, ◌+◌, ◌*◌, ◌/◌, ◌%◌, ◌<◌, ◌≤◌, ◌^◌, true, false, ◌&&◌, eqb, ltb, List, [], ◌∷◌, ◌++◌, length, drop, map, sym, ap, ◌∙◌, Some, None, refl, arith, ⊎_elim, not, leb}
-use Rattle.std.specs.Char.{digit_char, digit_value, is_ascii_hexdigit}
+use Rattle.std.specs.Char.{digit_char, is_ascii_hexdigit}
 use Rattle.std.specs.Int.Digits.{number_from_digits, number_from_digits_after}
 use Rattle.std.specs.List.{All, AllByRecursion, flat_map, list_all, list_any}
 use Rattle.std.specs.Option.{option_map}
 use Rattle.std.specs.Str.Parse.{digits_value, digits_value_after}
 use Rattle.std.proofs.lemmas.Bool.{cond-true, cond-false, and_from, ne_eqb, lt-ltb, le-ltb, le-leb, cases_lt, false≢true, or_from}
-use Rattle.std.proofs.lemmas.Bool.Decides.{nat_tests}
 use Rattle.std.proofs.lemmas.List.Elements.{All-nil, All-cons, All-head, All-tail, All-same}
 use Rattle.std.proofs.lemmas.List.{length-map}
+use Rattle.vnff_base.proofs.HexLemmas.{digit_char-read}
 use Rattle.ntuple_text.specs.Addresses.{gap_of, is_dot, is_gap}
 use Rattle.ntuple_text.specs.Numerals.{are_hex_digits, hex_number}
 use Rattle.ntuple_text.specs.Pieces.{is_separator, hex_group, piece_of}
@@ -41,19 +41,16 @@ gap-next (x ∷ piece) tail some plain none =
     gap-colon x (piece ++ tail) (All-head P x piece plain) (gap-piece (x ∷ piece) tail plain none)
 
 -- digits by their values
-digit-read : (d : ℕ) → d < 16 → (digit_value (digit_char d) ≡ d) × (is_ascii_hexdigit (digit_char d) ≡ true)
-digit-read d h = (grind (arith, nat_tests), grind (arith, nat_tests))
-
 digit-other : (d byte : ℕ) → d < 16 → is_ascii_hexdigit byte ≡ false → eqb (digit_char d) byte ≡ false
-digit-other d byte small other = ne_eqb _ byte (λ is. false≢true (sym other ∙ (sym (ap is_ascii_hexdigit is) ∙ (digit-read d small).1)))
+digit-other d byte small other = ne_eqb _ byte (λ is. false≢true (sym other ∙ (sym (ap is_ascii_hexdigit is) ∙ (digit_char-read d small).1)))
 
 pub digits-hex : (ds : List ℕ) → AllByRecursion (λ d. d < 16) ds → list_all is_ascii_hexdigit (map digit_char ds) ≡ true
 digits-hex [] small = refl
-digits-hex (d ∷ ds) small = and_from _ _ (digit-read d small.0).1 (digits-hex ds small.1)
+digits-hex (d ∷ ds) small = and_from _ _ (digit_char-read d small.0).1 (digits-hex ds small.1)
 
 digits-after : (n : ℕ) (ds : List ℕ) → AllByRecursion (λ d. d < 16) ds → digits_value_after 16 n (map digit_char ds) ≡ number_from_digits_after 16 n ds
 digits-after n [] small = refl
-digits-after n (d ∷ ds) small = ap (λ k. digits_value_after 16 (n * 16 + k) (map digit_char ds)) (digit-read d small.0).0 ∙ digits-after (n * 16 + d) ds small.1
+digits-after n (d ∷ ds) small = ap (λ k. digits_value_after 16 (n * 16 + k) (map digit_char ds)) (digit_char-read d small.0).0 ∙ digits-after (n * 16 + d) ds small.1
 
 pub digits-plain : (ds : List ℕ) → AllByRecursion (λ d. d < 16) ds → All (λ b. is_separator 58 b ≡ false) (map digit_char ds)
 digits-plain [] small = All-nil (λ b. is_separator 58 b ≡ false)

@@ -1,13 +1,13 @@
 -- What is written of a number is read back.
 use Rattle.std.proofs.Common.{◌≡◌, ℕ, ◌+◌, ◌/◌, ◌%◌, ◌<◌, ◌≤◌, ◌^◌, true, false, ◌&&◌, ◌||◌, eqb, ltb, leb, List, [], ◌∷◌, length, drop, get_or, sym, ap, ◌∙◌, Some, None, Ok, Err, refl, arith, ⊎_elim, ◌++◌, map, append-nil, count_by, length-append}
-use Rattle.std.specs.Char.{digit_char, digit_value, is_ascii_digit, is_ascii_hexdigit}
+use Rattle.std.specs.Char.{digit_char, is_ascii_digit, is_ascii_hexdigit}
 use Rattle.std.specs.Fmt.{decimal}
 use Rattle.std.specs.Option.{ok_or}
 use Rattle.std.proofs.lemmas.Bool.{cond-true, cond-false, and_from, ne_eqb, eq-eqb, lt-ltb, le-leb, cases_lt, false≢true}
-use Rattle.std.proofs.lemmas.Bool.Decides.{nat_tests}
 use Rattle.std.proofs.lemmas.Fmt.{decimal_is_IsNumeral, decimal_digit, first_decimal}
 use Rattle.std.proofs.lemmas.Str.Parse.{digit_at}
 use Rattle.vnff_base.specs.Numbers.{number_of}
+use Rattle.vnff_base.proofs.HexLemmas.{digit_char-read}
 use Rattle.vnff_base.proofs.NumberLemmas.{number_of-decimal}
 use Rattle.ntuple_text.specs.Numerals.{hex_number, is_hexadecimal, is_octal, numeral_of, numeral_to, number_within}
 use Rattle.std.specs.Int.Digits.{number_from_digits}
@@ -51,19 +51,16 @@ numeral_to-decimal most n small within =
     ap (number_within most) (numeral_of-decimal n (omega arith)) ∙ cond-true (leb n most) (Ok n) _ (le-leb n most within)
 
 -- a digit that is written is one that is read
-digit-read : (d : ℕ) → d < 16 → (digit_value (digit_char d) ≡ d) × (is_ascii_hexdigit (digit_char d) ≡ true)
-digit-read d h = (grind (arith, nat_tests), grind (arith, nat_tests))
-
 four-hex : (n : ℕ) → list_all is_ascii_hexdigit (four_digits n) ≡ true
 four-hex n =
-    and_from _ _ (digit-read (n / 4096 % 16) (omega arith)).1 (and_from _ _ (digit-read (n / 256 % 16) (omega arith)).1 (and_from _ _ (digit-read (n / 16 % 16) (omega arith)).1 (and_from _ _ (digit-read (n % 16) (omega arith)).1 refl)))
+    and_from _ _ (digit_char-read (n / 4096 % 16) (omega arith)).1 (and_from _ _ (digit_char-read (n / 256 % 16) (omega arith)).1 (and_from _ _ (digit_char-read (n / 16 % 16) (omega arith)).1 (and_from _ _ (digit_char-read (n % 16) (omega arith)).1 refl)))
 
 four-value : (n : ℕ) → n < 65536 → digits_value 16 (four_digits n) ≡ n
 four-value n small =
-    let a = (digit-read (n / 4096 % 16) (omega arith)).0 in
-    let b = (digit-read (n / 256 % 16) (omega arith)).0 in
-    let c = (digit-read (n / 16 % 16) (omega arith)).0 in
-    let d = (digit-read (n % 16) (omega arith)).0 in
+    let a = (digit_char-read (n / 4096 % 16) (omega arith)).0 in
+    let b = (digit_char-read (n / 256 % 16) (omega arith)).0 in
+    let c = (digit_char-read (n / 16 % 16) (omega arith)).0 in
+    let d = (digit_char-read (n % 16) (omega arith)).0 in
     rw (a, b, c, d) (omega arith)
 
 hex_number-four : (n : ℕ) → n < 65536 → hex_number (four_digits n) ≡ Some n
@@ -115,14 +112,14 @@ read-pieces s separator first rest good few =
     cond-true (ltb (count_by p text) 8) (front_of s (slice_split p text)) None (lt-ltb _ _ count) ∙ (ap (front_of s) cut ∙ read-front s separator first rest good)
 
 no_colon : (d : ℕ) → d < 16 → is_separator 58 (digit_char d) ≡ false
-no_colon d small = ne_eqb _ 58 (λ is. false≢true (sym (ap is_ascii_hexdigit is) ∙ (digit-read d small).1))
+no_colon d small = ne_eqb _ 58 (λ is. false≢true (sym (ap is_ascii_hexdigit is) ∙ (digit_char-read d small).1))
 
 two-number : (n : ℕ) → n < 256 → hex_number (digit_char (n / 16 % 16) ∷ digit_char (n % 16) ∷ []) ≡ Some n
 unfolding hex_number
 two-number n small =
     let digits = digit_char (n / 16 % 16) ∷ digit_char (n % 16) ∷ [] in
-    let a = digit-read (n / 16 % 16) (omega arith) in
-    let b = digit-read (n % 16) (omega arith) in
+    let a = digit_char-read (n / 16 % 16) (omega arith) in
+    let b = digit_char-read (n % 16) (omega arith) in
     let value : digits_value 16 digits ≡ n = rw (a.0, b.0) (omega arith) in
     let below : ltb (digits_value 16 digits) (2 ^ 64) ≡ true = lt-ltb _ _ (omega (arith, value)) in
     cond-true _ (Some (digits_value 16 digits)) None (and_from _ _ (and_from _ _ a.1 (and_from _ _ b.1 refl)) below) ∙ ap Some value

@@ -7,7 +7,7 @@
 //! one, `query` reads one, `destroy` gives one back, and `at` is the entry with the place-th least id. Each refusal comes
 //! exactly where its case holds, and leaves the map as it was.
 //!
-//! All room is reserved by [`ObjMap::new`]. No later call takes memory, so a device that was made can't fail for want of it.
+//! All room is reserved by [`ObjMap::new`]. No later call asks for memory, so a device that was made can't fail for want of it.
 //! That is why the map is a sorted index over reserved slots and not a tree: a tree would take a node now and then, or
 //! would need its nodes reserved and linked by hand. In the index the entries stand by rising id for free, an id is found
 //! by halving, and what moves at a create or a destroy is the index's 8-byte entries and never an object.

@@ -7,7 +7,7 @@
 //! [`DeviceEnd::pop`] promises the chain of the layout, or its first fault, whatever bytes a hostile guest wrote: a chain
 //! that loops, leaves the memory or is too long is refused, and the end is then as it was. [`DeviceEnd::push_used`] writes
 //! one element and the index. [`DriverEnd::post`] writes the descriptors of a chain, its head and the available index, and
-//! nothing else; [`DriverEnd::take`] takes back what the device gave back. No call but [`DriverEnd::new`] takes memory.
+//! nothing else; [`DriverEnd::take`] takes back what the device gave back. No call but [`DriverEnd::new`] asks for memory.
 //!
 //! Both ends of a fresh queue agree, and bytes outside of the queue don't change that. After a round of post, pop, push and
 //! take they agree again: the take gives the chain that was pushed, and no fewer descriptors are free than before

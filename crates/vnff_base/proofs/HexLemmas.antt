@@ -37,7 +37,7 @@ hex_bytes-none word not_dash odd = rw (not_dash, odd) refl
 pub ruleset kinds_of_word = (hex_bytes-dash, hex_bytes-pairs, hex_bytes-none)
 
 -- a digit that is written is one that is read
-digit_char-read : (d : ℕ) → d < 16 → (digit_value (digit_char d) ≡ d) × (is_ascii_hexdigit (digit_char d) ≡ true)
+pub digit_char-read : (d : ℕ) → d < 16 → (digit_value (digit_char d) ≡ d) × (is_ascii_hexdigit (digit_char d) ≡ true)
 digit_char-read d h = (grind (arith, nat_tests), grind (arith, nat_tests))
 
 pair_bytes-hex_pair : (byte : ℕ) (rest : List ℕ) → byte < 256 → pair_bytes (hex_pair byte ++ rest) ≡ byte ∷ pair_bytes rest

@@ -1,6 +1,7 @@
 -- The maps of objects: their room, and what a create leaves.
 use Rattle.std.proofs.Common.{◌≡◌, ℕ, Bool, true, false, not, ◌&&◌, ◌||◌, cond, eqb, List, [], length, Result, Ok, Err, refl, sym, ap, subst, arith}
 use Rattle.std.specs.Prelude.{is_some, nat_lt, IsOk, OnOk, ⊤}
+use Rattle.std.proofs.lemmas.Bool.{not-true}
 use Rattle.std.proofs.lemmas.Bool.Decides.{nat_tests}
 use Rattle.ff_headers.specs.SelectorParts.{SelectorParts}
 use Rattle.ff_headers.specs.RuleParts.{RuleParts}
@@ -32,10 +33,6 @@ pub on_ok : {T E : Type 0} {P : Type 0} (r : Result T E) (x : T) → r ≡ Ok x 
 on_ok (Ok y) x h p = p
 on_ok (Err e) x h p = absurd cc
 
-not_true : (b : Bool) → not b ≡ true → b ≡ false
-not_true true h = absurd cc
-not_true false h = refl
-
 and_left : (a b : Bool) → (a && b) ≡ true → a ≡ true
 and_left true b h = refl
 and_left false b h = absurd cc
@@ -63,7 +60,7 @@ if_absent false other room h k = k
 -- a map with room for a new id creates it
 creates : {X : Type 0} (map : BoundedMap X) (id limit : ℕ) → map.room ≡ limit → not (is_some (object_of map id)) ≡ true → nat_lt (length map.entries) limit ≡ true → IsOk (create_answer map id)
 creates map id limit room new below =
-    let absent : is_some (object_of map id) ≡ false = not_true _ new in
+    let absent : is_some (object_of map id) ≡ false = not-true _ new in
     let apart : eqb (length map.entries) map.room ≡ false = grind (arith, nat_tests) in
     ok_by_tests (is_some (object_of map id)) (eqb (length map.entries) map.room) absent apart
 
@@ -82,7 +79,7 @@ module _ (limits : Limits) (groups : BoundedMap ℕ) (classifiers : BoundedMap (
 
       pub group_creates : IsOk (create_answer groups id)
       unfolding is_sound
-      group_creates = creates groups id limits.groups was.groups_room put_group.is_new (or_later _ _ (not_true _ put_group.is_new) (and_left _ _ put_group.sound))
+      group_creates = creates groups id limits.groups was.groups_room put_group.is_new (or_later _ _ (not-true _ put_group.is_new) (and_left _ _ put_group.sound))
 
       group_step : objects_in (with_object groups id priority) classifiers rules ≡ step limits (objects_in groups classifiers rules) (PutGroup id priority)
       unfolding step changed
@@ -106,7 +103,7 @@ module _ (limits : Limits) (groups : BoundedMap ℕ) (classifiers : BoundedMap (
 
       pub classifier_creates : IsOk (create_answer classifiers id)
       unfolding is_sound
-      classifier_creates = creates classifiers id limits.classifiers was.classifiers_room put_classifier.is_new (if_absent _ _ _ (not_true _ put_classifier.is_new) put_classifier.sound)
+      classifier_creates = creates classifiers id limits.classifiers was.classifiers_room put_classifier.is_new (if_absent _ _ _ (not-true _ put_classifier.is_new) put_classifier.sound)
 
       classifier_step : objects_in groups (with_object classifiers id selectors) rules ≡ step limits (objects_in groups classifiers rules) (PutClassifier id selectors)
       unfolding step changed
@@ -130,7 +127,7 @@ module _ (limits : Limits) (groups : BoundedMap ℕ) (classifiers : BoundedMap (
 
       pub rule_creates : IsOk (create_answer rules id)
       unfolding is_sound
-      rule_creates = creates rules id limits.rules was.rules_room put_rule.is_new (or_later _ _ (not_true _ put_rule.is_new) (and_right _ _ put_rule.sound))
+      rule_creates = creates rules id limits.rules was.rules_room put_rule.is_new (or_later _ _ (not-true _ put_rule.is_new) (and_right _ _ put_rule.sound))
 
       rule_step : objects_in groups classifiers (with_object rules id rule) ≡ step limits (objects_in groups classifiers rules) (PutRule id rule)
       unfolding step changed

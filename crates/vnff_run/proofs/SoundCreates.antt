@@ -19,6 +19,7 @@ use Rattle.admin_wire.specs.declared.command.ObjData.TheVariants as objs
 use Rattle.admin_wire.specs.declared.command.RawList.TheVariants as raw_list
 use Rattle.admin_wire.specs.declared.command.RawRule.{RawRule}
 use Rattle.admin_wire.specs.Creates.{key_bytes}
+use Rattle.res_objects.proofs.Objects.{none_from_test}
 use Rattle.vnff_run.specs.Caps.{CapsParts, DriverParts, AtMost}
 use Rattle.vnff_run.specs.States.{QueuesWithin}
 use Rattle.vnff_run.specs.Refusals.{Refusal, first_refusal, create_refusals, rule_refusals, drop_action, queue_action, is_action_set, is_receive_queue}
@@ -88,10 +89,6 @@ some_is h = cc
 rule_is : {i j : ℕ} {r s : RuleParts} → PutRule i r ≡ PutRule j s → r ≡ s
 rule_is h = cc
 
-no_fault : {X : Type 0} (o : Option X) → is_some o ≡ false → o ≡ None
-no_fault None h = refl
-no_fault (Some x) h = absurd cc
-
 module _ (caps : CapsParts) (driver : DriverParts) (objects : FlowObjects) (at_most : AtMost driver.limits caps.limits) (head : ObjHead) where
   rule_backed : (rule : RawRule) → NoneHolds (rule_refusals caps driver objects head.id rule) → is_backed objects (rule_parts rule) ≡ true
   rule_backed rule none = both _ _ (not_false _ none.1.0) (key_right (held objects.classifiers rule.classifier) (length (key_bytes rule.key)) none.1.1.0 none.1.1.1.1.0)
@@ -111,7 +108,7 @@ module _ (caps : CapsParts) (driver : DriverParts) (objects : FlowObjects) (at_m
     create = record {
       is_new = ap not none.1.0;
       sound = if_new _ _ _ none.1.0 (room_below (length objects.classifiers) driver.limits.classifiers caps.limits.classifiers at_most.classifiers none.1.1.0);
-      shaped = shape_from_no_fault list.items (no_fault (shape_fault list.items) none.1.1.1.0);
+      shaped = shape_from_no_fault list.items (none_from_test (shape_fault list.items) none.1.1.1.0);
     };
     queues = λ id rule e. absurd cc;
   })
