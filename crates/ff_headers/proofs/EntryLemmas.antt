@@ -47,10 +47,10 @@ module _ {X : Type 0} where
   pub held-cons : (key : ℕ) (value : X) (es : List (ℕ × X)) (id : ℕ) → held ((key, value) ∷ es) id ≡ cond (eqb id key) (Some value) (held es id)
   held-cons key value es id = ap (λ b. cond b (Some value) (held es id)) (is_at-nat id key)
 
-  put-cons : (key : ℕ) (value : X) (es : List (ℕ × X)) (id : ℕ) (x : X) → put ((key, value) ∷ es) id x ≡ cond (ltb id key) ((id, x) ∷ (key, value) ∷ es) (cond (eqb id key) ((key, x) ∷ es) ((key, value) ∷ put es id x))
+  pub put-cons : (key : ℕ) (value : X) (es : List (ℕ × X)) (id : ℕ) (x : X) → put ((key, value) ∷ es) id x ≡ cond (ltb id key) ((id, x) ∷ (key, value) ∷ es) (cond (eqb id key) ((key, x) ∷ es) ((key, value) ∷ put es id x))
   put-cons key value es id x = ordering_cases id key ((id, x) ∷ (key, value) ∷ es) ((key, x) ∷ es) ((key, value) ∷ put es id x)
 
-  without-cons : (key : ℕ) (value : X) (es : List (ℕ × X)) (id : ℕ) → without ((key, value) ∷ es) id ≡ cond (eqb id key) es ((key, value) ∷ without es id)
+  pub without-cons : (key : ℕ) (value : X) (es : List (ℕ × X)) (id : ℕ) → without ((key, value) ∷ es) id ≡ cond (eqb id key) es ((key, value) ∷ without es id)
   without-cons key value es id = ap (λ b. cond b es ((key, value) ∷ without es id)) (is_at-nat id key)
 
   -- an entry of the list is held, and one that is held is in the list

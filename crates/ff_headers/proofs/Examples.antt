@@ -1,14 +1,16 @@
 -- The definitions at worked examples.
-use Rattle.std.proofs.Common.{◌≡◌, ℕ, true, false, List, [], ◌∷◌, ◌++◌, replicate, Some, None, refl}
-use Rattle.ff_headers.specs.Kinds.{kind_of_code}
+use Rattle.std.proofs.Common.{◌≡◌, ℕ, ◌+◌, ◌-◌, ◌*◌, ◌^◌, true, false, List, [], ◌∷◌, ◌++◌, map, drop, replicate, Some, None, refl}
+use Rattle.ff_headers.specs.Kinds.{kind_of_code, kind_size}
 use Rattle.ff_headers.specs.SelectorParts.{SelectorParts, selector_with}
 use Rattle.ff_headers.specs.RuleParts.{RuleParts, rule_with}
 use Rattle.ff_headers.specs.Shapes.{shape_fault}
+use Rattle.ff_headers.specs.Fields.{field, value_at, fields_of, is_allowed}
 use Rattle.ff_headers.specs.Frames.{headers_of}
 use Rattle.ff_headers.specs.Matching.{fits, matches, key_size, parts_of}
 use Rattle.ff_headers.specs.Objects.{FlowObjects}
 use Rattle.ff_headers.specs.Places.{rule_matches, first_rule, action_of}
-use Rattle.ff_headers.specs.Changes.{is_sound, changed, step, after}
+use Rattle.ff_headers.specs.Changes.{is_sound, changed, step, after, change_count, saturated}
+use Rattle.ff_headers.specs.declared.kind.Kind.{Kind}
 use Rattle.ff_headers.specs.declared.kind.Kind.TheVariants.{Eth, Ipv4, Ipv6, Tcp, Udp}
 use Rattle.ff_headers.specs.declared.limits.Limits.{Limits}
 use Rattle.ff_headers.specs.declared.selectors.ShapeErr.TheVariants.{Empty, Order, BothIp, BothPorts}
@@ -98,6 +100,78 @@ cut_key : parts_of (eth ∷ udp ∷ []) (replicate 14 1 ++ replicate 8 2) ≡ re
 unfolding eth udp
 cut_key = refl
 
+-- ---- fields
+
+-- each field begins where the one before it ends, and the last one ends with the header
+one_after_another : (kind : Kind) → map (λ f. f.first + f.bits) (fields_of kind) ≡ map (λ f. f.first) (drop 1 (fields_of kind)) ++ 8 * kind_size kind ∷ []
+one_after_another Eth = refl
+one_after_another Ipv4 = refl
+one_after_another Ipv6 = refl
+one_after_another Tcp = refl
+one_after_another Udp = refl
+
+eth_type : value_at (field 96 16) frame ≡ 2048
+unfolding frame
+eth_type = refl
+
+-- flags 2 (a fragment must not follow) and the offset 7937
+flags_byte : List ℕ
+flags_byte = replicate 6 0 ++ 95 ∷ 1 ∷ replicate 12 0
+
+ipv4_flags : value_at (field 48 3) flags_byte ≡ 2
+unfolding flags_byte
+ipv4_flags = refl
+
+ipv4_offset : value_at (field 51 13) flags_byte ≡ 7937
+unfolding flags_byte
+ipv4_offset = refl
+
+-- version 6, traffic class 171, and flow label 826077
+two_nibbles : List ℕ
+two_nibbles = 106 ∷ 188 ∷ 154 ∷ 221 ∷ replicate 36 0
+
+traffic_class : value_at (field 4 8) two_nibbles ≡ 171
+unfolding two_nibbles
+traffic_class = refl
+
+flow_label : value_at (field 12 20) two_nibbles ≡ 826077
+unfolding two_nibbles
+flow_label = refl
+
+ipv6_source : value_at (field 64 128) (replicate 23 255 ++ 254 ∷ replicate 16 0) ≡ 2 ^ 128 - 2
+ipv6_source = refl
+
+-- ---- the mask rule: a mask of the IPv4 flags, all three or two of them
+
+flags_mask : ℕ → ℕ → SelectorParts
+flags_mask flags bits = selector_with Ipv4 flags (replicate 6 0 ++ bits ∷ replicate 13 0)
+
+whole_flags : is_allowed (flags_mask 0 224) (flags_mask 0 224) ≡ true
+unfolding is_allowed flags_mask
+whole_flags = refl
+
+no_flags : is_allowed (flags_mask 0 224) (flags_mask 0 0) ≡ true
+unfolding is_allowed flags_mask
+no_flags = refl
+
+some_flags : is_allowed (flags_mask 0 224) (flags_mask 0 192) ≡ false
+unfolding is_allowed flags_mask
+some_flags = refl
+
+-- the flags byte of a capability has other bits besides PARTIAL_MASK, its lowest one
+some_flags_in_part : is_allowed (flags_mask 131 224) (flags_mask 0 192) ≡ true
+unfolding is_allowed flags_mask
+some_flags_in_part = refl
+
+other_flag : is_allowed (flags_mask 130 224) (flags_mask 1 192) ≡ false
+unfolding is_allowed flags_mask
+other_flag = refl
+
+-- the fragment offset's first bit stands in the same byte
+another_field : is_allowed (flags_mask 1 224) (flags_mask 0 240) ≡ false
+unfolding is_allowed flags_mask
+another_field = refl
+
 -- ---- objects: two groups, of priorities 9 and 3, a classifier, and rules of one key
 
 queue_rule : ℕ → ℕ → ℕ → RuleParts
@@ -158,3 +232,10 @@ unsound_left_out = refl
 dropped : after limits history 8 ≡ record { groups = []; classifiers = (1, by_type ∷ []) ∷ []; rules = [] }
 unfolding after step is_sound changed limits history queue_rule by_type ip_key
 dropped = refl
+
+close_is_no_change : change_count history ≡ 7
+unfolding history
+close_is_no_change = refl
+
+count_stands_still : saturated (2 ^ 64) ≡ 2 ^ 64 - 1
+count_stands_still = refl

@@ -1,6 +1,6 @@
 -- What a list of changes leaves. The objects are those of the Virtio 1.4 draft's flow filter; which change is sound is this
 -- project's own. The limits are the device's.
-use Rattle.std.specs.Prelude.{ℕ, Bool, true, false, not, ◌&&◌, ◌||◌, ◌==◌, nat_lt, List, length, take, fold, is_some, if◌then◌else◌}
+use Rattle.std.specs.Prelude.{ℕ, ◌+◌, ◌-◌, ◌^◌, min, count_by, Bool, true, false, not, ◌&&◌, ◌||◌, ◌==◌, nat_lt, List, length, take, fold, is_some, if◌then◌else◌}
 use Rattle.std.specs.List.{list_any}
 use Rattle.std.specs.Map.{remove_entry}
 use Rattle.std.specs.Option.{option_map_or}
@@ -80,3 +80,20 @@ step limits objects change = if is_sound limits objects change then changed obje
 -- the objects that the first k changes leave, starting with none
 unfoldable pub after : Limits → List Change → ℕ → FlowObjects
 after limits changes k = fold (step limits) no_objects (take k changes)
+
+-- the change that no further one follows
+abbrev pub is_close : Change → Bool
+is_close Close = true
+is_close _ = false
+
+-- how many of the changes are none that closes the list
+abbrev pub change_count : List Change → ℕ
+change_count changes = count_by (λ change. not (is_close change)) changes
+
+-- a count of 64 bits, which stands still at its type's end
+abbrev pub saturated : ℕ → ℕ
+saturated count = min count (2 ^ 64 - 1)
+
+-- the count of changes after one more
+abbrev pub counted : ℕ → Change → ℕ
+counted count change = if is_close change then count else saturated (count + 1)

@@ -1,9 +1,11 @@
 pub mod Kinds
 pub mod SelectorParts
 pub mod Shapes
+pub mod Fields
 pub mod RuleParts
 pub mod Frames
 pub mod Matching
 pub mod Objects
+pub mod Dependents
 pub mod Places
 pub mod Changes

@@ -1,4 +1,5 @@
 ghost use Rattle.std.specs.Prelude.{◌≡◌};
+ghost use Rattle.ff_headers.specs.Changes.{is_close, counted};
 
 use crate::rule::RuleObj;
 use crate::selectors::Selectors;
@@ -33,6 +34,24 @@ impl Change {
             Change::PutRule(id, rule) => Change::PutRule(*id, rule.copy()),
             Change::DropRule(id) => Change::DropRule(*id),
             Change::Close => Change::Close,
+        }
+    }
+
+    /// Whether no further change follows.
+    pub fn is_close(&self) -> bool
+        ensures { result ≡ is_close self.now }
+    {
+        matches!(self, Change::Close)
+    }
+
+    /// How many changes there are with this one, which counts unless it is `Close`. The count stands still at 2^64 - 1.
+    pub fn count_after(&self, count: u64) -> u64
+        ensures { result ≡ counted count self.now }
+    {
+        if self.is_close() {
+            count
+        } else {
+            count.saturating_add(1)
         }
     }
 }

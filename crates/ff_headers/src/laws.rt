@@ -1,10 +1,10 @@
 //! Laws of the definitions. Each call does nothing: its contract is the law.
 
-ghost use Rattle.std.specs.Prelude.{◌≡◌, ◌↔◌, ℕ, List, IsSome, IfSome, All};
+ghost use Rattle.std.specs.Prelude.{◌≡◌, ◌↔◌, ℕ, List, IsSome, IfSome, All, fold};
 ghost use Rattle.ff_headers.specs.declared.limits.Limits.{Limits};
 ghost use Rattle.ff_headers.specs.Frames.{HeaderBytes};
 ghost use Rattle.ff_headers.specs.Objects.{FlowObjects, no_objects, IsWellFormed, IsById};
-ghost use Rattle.ff_headers.specs.Changes.{CarriesShape, step, after};
+ghost use Rattle.ff_headers.specs.Changes.{CarriesShape, step, after, counted, change_count, saturated};
 ghost use Rattle.ff_headers.specs.declared.change.Change.{Change};
 ghost use Rattle.ff_headers.specs.Places.{RuleEntry, IsMatching, IsFirst, first_rule};
 
@@ -25,4 +25,9 @@ pub fn changes_keep_objects_well_formed()
         → CarriesShape change → IsWellFormed limits (step limits objects change) }
     ensures all { (limits : Limits) (changes : List Change) (k : ℕ) → All CarriesShape changes
         → IsWellFormed limits (after limits changes k) }
+{}
+
+/// Counting changes one by one gives how many there are, or the count's end.
+pub fn each_change_is_counted()
+    ensures { (changes : List Change) → fold counted 0 changes ≡ saturated (change_count changes) }
 {}

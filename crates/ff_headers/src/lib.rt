@@ -10,28 +10,38 @@
 //! defines what a list of changes to groups, classifiers and rules leaves, and which rule is the first that matches;
 //! the device, the search and the published tables all cite these definitions.
 //!
-//! Definitions, in specs/: `Kinds` and `SelectorParts`, `Shapes` (good shape), `Frames` (headers), `Matching` (a selector
-//! fits, a rule matches), `RuleParts` and `Objects` (well-formed objects), `Places` (first rule, action), `Changes`.
+//! `allowed` says which masks a selector of a device's capability allows: each header is cut into fields, and a field is
+//! a number. `Steps` counts the steps of a search in what contracts see, and takes no bytes.
+//!
+//! Definitions, in specs/: `Kinds` and `SelectorParts`, `Shapes` (good shape), `Fields` (fields as numbers, and the mask
+//! rule), `Frames` (headers), `Matching` (a selector fits, a rule matches), `RuleParts` and `Objects` (well-formed
+//! objects), `Dependents` (rules that name an object), `Places` (first rule, action), `Changes`.
 //! The laws that stand on no other call are those of `laws`.
 #![tactic(auto)]
 
 mod change;
+mod field;
 mod headers;
 mod kind;
 pub mod laws;
 mod limits;
+mod mask_rule;
 mod matching;
 mod rule;
 mod selector;
 mod selectors;
+mod steps;
 #[cfg(test)]
 mod tests;
 
 pub use change::Change;
+pub use field::{Field, fields_of};
 pub use headers::Headers;
 pub use kind::Kind;
 pub use limits::Limits;
+pub use mask_rule::allowed;
 pub use matching::matches;
 pub use rule::{Action, Key, RuleAction, RuleObj};
 pub use selector::Selector;
 pub use selectors::{Selectors, ShapeErr};
+pub use steps::Steps;

@@ -1,9 +1,14 @@
 //! Each public call once, on a frame of two addresses and the type 0x0800.
 
+ghost use Rattle.std.specs.Prelude.{◌≡◌, ◌<◌};
+
 use crate::{
     Action, Change, Headers, Key, Kind, Limits, RuleAction, RuleObj, Selector, Selectors, ShapeErr,
-    matches,
+    Steps, allowed, matches,
 };
+use std::marker::Brand;
+use std::mem::size_of;
+use std::sync::ledger::{Blank, Ledger};
 use std::test::Fail;
 
 const FRAME: [u8; 14] = [1, 2, 3, 4, 5, 6, 7, 8, 9, 10, 11, 12, 8, 0];
@@ -62,5 +67,43 @@ fn a_copy_is_equal(rt: HostRuntime) -> Result<(), Fail> {
     assert_eq!(rt; rule.key().len(), 0);
     let change = Change::PutRule(5, rule);
     assert_eq!(rt; change.copy(), change);
+    Ok(())
+}
+
+#[test]
+fn masks_are_allowed(rt: HostRuntime) -> Result<(), Fail> {
+    let whole_type = Selector::new(Kind::Eth, 0, &TYPE_MASK);
+    let mut half_type = TYPE_MASK;
+    half_type[13] = 0;
+    let half = Selector::new(Kind::Eth, 0, &half_type);
+    assert!(rt; allowed(&whole_type, &whole_type));
+    assert!(rt; !allowed(&whole_type, &half));
+    assert!(rt; allowed(&Selector::new(Kind::Eth, 1, &TYPE_MASK), &half));
+    Ok(())
+}
+
+#[test]
+fn close_is_not_counted(rt: HostRuntime) -> Result<(), Fail> {
+    assert!(rt; Change::Close.is_close());
+    assert_eq!(rt; Change::Close.count_after(7), 7);
+    assert_eq!(rt; Change::DropRule(1).count_after(7), 8);
+    assert_eq!(rt; Change::DropRule(1).count_after(u64::MAX), u64::MAX);
+    Ok(())
+}
+
+/// Takes a step. At run time there is nothing to see.
+fn take_a_step<L: Ledger>(blank: Blank)
+    requires name { blank.name ≡ L.name }
+    requires parts { blank.parts ≡ L.parts }
+    requires some { 0 < blank.parts }
+{
+    let mut steps = Steps::<L>::new(blank);
+    steps.tick();
+}
+
+#[test]
+fn steps_take_no_bytes(rt: HostRuntime) -> Result<(), Fail> {
+    take_a_step::<Brand>(Blank::new(1));
+    assert_eq!(rt; size_of::<Steps<Brand>>(), 0);
     Ok(())
 }
