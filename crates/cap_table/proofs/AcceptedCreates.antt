@@ -1,0 +1,120 @@
+-- A create against which no row holds makes a put that is sound, of a classifier of good shape, or of a rule that goes to a
+-- receive queue.
+use Rattle.std.proofs.Common.{◌≡◌, ℕ, ◌≤◌, Bool, true, false, not, ◌&&◌, ◌||◌, cond, List, length, Option, Some, None, refl, ap, subst, arith}
+use Rattle.std.specs.Prelude.{is_some, nat_le, nat_lt, ◌==◌}
+use Rattle.std.specs.Option.{option_map_or}
+use Rattle.std.proofs.lemmas.Bool.Decides.{nat_tests}
+use Rattle.ff_headers.specs.SelectorParts.{SelectorParts}
+use Rattle.ff_headers.specs.RuleParts.{RuleParts}
+use Rattle.ff_headers.specs.Matching.{key_size}
+use Rattle.ff_headers.specs.Objects.{FlowObjects, held}
+use Rattle.ff_headers.specs.Changes.{has_room, is_sound, is_backed, CarriesShape}
+use Rattle.ff_headers.specs.Shapes.{shape_fault}
+use Rattle.ff_headers.specs.declared.change.Change.{Change}
+use Rattle.ff_headers.specs.declared.change.Change.TheVariants.{PutRule}
+use Rattle.ff_headers.specs.declared.rule.RuleAction.TheVariants.{Drop, Queue}
+use Rattle.ff_headers.proofs.ShapeLemmas.{shape_from_no_fault}
+use Rattle.admin_wire.specs.declared.command.Command.{Command}
+use Rattle.admin_wire.specs.declared.command.Command.TheVariants.{Create}
+use Rattle.admin_wire.specs.declared.command.ObjHead.{ObjHead}
+use Rattle.admin_wire.specs.declared.command.ObjData.{ObjData}
+use Rattle.admin_wire.specs.declared.command.ObjData.TheVariants as objs
+use Rattle.admin_wire.specs.declared.command.RawRule.{RawRule}
+use Rattle.admin_wire.specs.Creates.{key_bytes}
+use Rattle.cap_table.specs.Caps.{CapsParts, DriverParts, AtMost, drop_action, queue_action, is_action_set}
+use Rattle.cap_table.specs.States.{QueuesWithin, is_receive_queue}
+use Rattle.cap_table.specs.Rows.{NoneHolds, first_verdict}
+use Rattle.cap_table.specs.Verdicts.{command_rows, rule_faults, change_of, selectors_in, rule_parts, action_of_byte}
+use Rattle.cap_table.proofs.RowLemmas.{IsSoundContent, sound_content, none_holds}
+
+or_right : (a b : Bool) → b ≡ true → (a || b) ≡ true
+or_right true b h = refl
+or_right false b h = h
+
+both : (a b : Bool) → a ≡ true → b ≡ true → (a && b) ≡ true
+both true b h k = k
+both false b h k = absurd cc
+
+not_false : (b : Bool) → not b ≡ false → b ≡ true
+not_false true h = refl
+not_false false h = absurd cc
+
+none_from_test : {X : Type 0} (o : Option X) → is_some o ≡ false → o ≡ None
+none_from_test None h = refl
+none_from_test (Some x) h = absurd cc
+
+-- a limit that is below another leaves room below that other
+room_below : (count small limit : ℕ) → small ≤ limit → nat_le small count ≡ false → nat_lt count limit ≡ true
+room_below count small limit le h = grind (arith, nat_tests)
+
+room_for_one : {X : Type 0} (es : List (ℕ × X)) (id small limit : ℕ) → small ≤ limit → nat_le small (length es) ≡ false → has_room es id limit ≡ true
+room_for_one es id small limit le h = or_right (is_some (held es id)) (nat_lt (length es) limit) (room_below (length es) small limit le h)
+
+-- what is asked of a new id
+if_new : (held other room : Bool) → held ≡ false → room ≡ true → cond held other room ≡ true
+if_new true other room new free = absurd cc
+if_new false other room new free = free
+
+-- the key has the size of the classifier that is held
+key_right : (o : Option (List SelectorParts)) (size : ℕ) → not (is_some o) ≡ false → not (size == option_map_or key_size o 0) ≡ false → option_map_or (λ selectors. size == key_size selectors) o false ≡ true
+key_right None size there right = absurd cc
+key_right (Some selectors) size there right = not_false _ right
+
+-- an action that is set and isn't the drop is the queue
+queue_byte : (driver : DriverParts) (action : ℕ) → is_action_set driver action ≡ true → action_of_byte action ≡ Queue → (action == queue_action) ≡ true
+queue_byte driver action set is = by_test (action == drop_action) (action == queue_action) set is where
+  by_test : (b c : Bool) → cond b driver.drops (cond c driver.queues false) ≡ true → cond b Drop Queue ≡ Queue → c ≡ true
+  by_test true c set is = absurd cc
+  by_test false true set is = refl
+  by_test false false set is = absurd cc
+
+receive_queue : (queues right : Bool) → (queues && not right) ≡ false → queues ≡ true → right ≡ true
+receive_queue true true h is = refl
+receive_queue true false h is = absurd cc
+receive_queue false right h is = absurd cc
+
+-- what the change of an accepted command is
+pub record IsAccepted (caps : CapsParts) (objects : FlowObjects) (change : Change) : Type 0 where
+  pub sound : is_sound caps.limits objects change ≡ true
+  pub shaped : CarriesShape change
+  pub queues : (id : ℕ) (rule : RuleParts) → change ≡ PutRule id rule → QueuesWithin caps.pairs (id, rule)
+
+some_is : {a b : Change} → Some a ≡ Some b → a ≡ b
+some_is h = cc
+
+rule_is : {i j : ℕ} {r s : RuleParts} → PutRule i r ≡ PutRule j s → r ≡ s
+rule_is h = cc
+
+module _ (caps : CapsParts) (driver : DriverParts) (objects : FlowObjects) (at_most : AtMost driver.limits caps.limits) where
+  rule_backed : (id : ℕ) (rule : RawRule) → IsSoundContent (rule_faults caps driver objects id rule) → is_backed objects (rule_parts rule) ≡ true
+  rule_backed id rule sound = both _ _ (not_false _ sound.group_held) (key_right (held objects.classifiers rule.classifier) (length (key_bytes rule.key)) sound.classifier_held sound.key_fits)
+
+  rule_queues : (id : ℕ) (rule : RawRule) → IsSoundContent (rule_faults caps driver objects id rule) → QueuesWithin caps.pairs (id, rule_parts rule)
+  rule_queues id rule sound act =
+      receive_queue (rule.action == queue_action) (is_receive_queue caps.pairs rule.vq) sound.queue_right (queue_byte driver rule.action (not_false _ sound.action_set) act)
+
+  accepted_object : (head : ObjHead) (object : ObjData) → NoneHolds (command_rows caps driver objects (Create head object)) → (change : Change) → change_of (Create head object) ≡ Some change → IsAccepted caps objects change
+  unfolding is_sound
+  accepted_object head (objs.Group priority) none change put = subst (IsAccepted caps objects) (some_is put) (record {
+    sound = both _ _ (room_for_one objects.groups head.id driver.limits.groups caps.limits.groups at_most.groups none.1.1.1.0) (ap not none.1.1.1.1.0);
+    shaped = tt;
+    queues = λ id rule e. absurd cc;
+  })
+  accepted_object head (objs.Classifier list) none change put = subst (IsAccepted caps objects) (some_is put) (record {
+    sound = if_new _ _ _ none.1.1.0 (room_below (length objects.classifiers) driver.limits.classifiers caps.limits.classifiers at_most.classifiers none.1.1.1.0);
+    shaped = shape_from_no_fault (selectors_in list) (none_from_test (shape_fault (selectors_in list)) none.1.1.1.1.1.0);
+    queues = λ id rule e. absurd cc;
+  })
+  accepted_object head (objs.Rule rule) none change put =
+      let sound = sound_content (rule_faults caps driver objects head.id rule) none.1.1.1.1 in
+      subst (IsAccepted caps objects) (some_is put) (record {
+        sound = both _ _ (rule_backed head.id rule sound) (room_for_one objects.rules head.id driver.limits.rules caps.limits.rules at_most.rules none.1.1.1.0);
+        shaped = tt;
+        queues = λ id other e. subst (λ (r : RuleParts). QueuesWithin caps.pairs (id, r)) (rule_is e) (rule_queues head.id rule sound);
+      })
+  accepted_object head objs.Other none change put = absurd cc
+
+  -- a command against which no row holds makes such a change
+  pub accepted_change : (command : Command) → first_verdict (command_rows caps driver objects command) ≡ None → (change : Change) → change_of command ≡ Some change → IsAccepted caps objects change
+  accepted_change (Create head object) none change put = accepted_object head object (none_holds (command_rows caps driver objects (Create head object)) none) change put
+  accepted_change _ none change put = absurd cc

@@ -1,0 +1,5 @@
+pub mod OpcodeLemmas
+pub mod RowLemmas
+pub mod AcceptedCreates
+pub mod EveryAnswer
+pub mod ValidSteps

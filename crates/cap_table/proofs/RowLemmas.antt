@@ -1,0 +1,86 @@
+-- Rows of conditions: no row holds exactly where there is no verdict, and what the rows on a layout say.
+use Rattle.std.proofs.Common.{◌≡◌, ℕ, Bool, true, false, ◌||◌, cond, List, [], ◌∷◌, ◌++◌, Option, Some, None, Result, Ok, Err, refl, ap, ◌∙◌}
+use Rattle.admin_wire.specs.declared.command.Command.{Command}
+use Rattle.admin_wire.specs.declared.error.WireErr.{WireErr}
+use Rattle.admin_wire.specs.declared.error.WireErr.TheVariants as wire_err
+use Rattle.cap_table.specs.Rows.{Row, NoneHolds, first_verdict, invalid_command, invalid_opcode, invalid_group, invalid_member}
+use Rattle.cap_table.specs.Verdicts.{RuleFaults, rule_rows, layout_rows, is_header_cut, is_opcode_unknown, is_opcode_unused, is_group_other, is_member_other, is_data_cut, fault_verdict}
+
+-- there is no verdict, so no row holds
+pub none_holds : (rows : List Row) → first_verdict rows ≡ None → NoneHolds rows
+none_holds [] h = tt
+none_holds (row ∷ rows) h = by_test row.0 refl h (none_holds rows) where
+  by_test : (b : Bool) → row.0 ≡ b → cond b (Some row.1) (first_verdict rows) ≡ None → (first_verdict rows ≡ None → NoneHolds rows) → NoneHolds (row ∷ rows)
+  by_test true e k rest = absurd cc
+  by_test false e k rest = (e, rest k)
+
+-- no row holds, so there is no verdict
+pub no_verdict : (rows : List Row) → NoneHolds rows → first_verdict rows ≡ None
+no_verdict [] none = refl
+no_verdict (row ∷ rows) none = ap (λ b. cond b (Some row.1) (first_verdict rows)) none.0 ∙ no_verdict rows none.1
+
+-- the verdict of rows behind others that don't hold
+pub past_rows : (rows more : List Row) → NoneHolds rows → first_verdict (rows ++ more) ≡ first_verdict more
+past_rows [] more none = refl
+past_rows (row ∷ rows) more none =
+    ap (λ b. cond b (Some row.1) (first_verdict (rows ++ more))) none.0 ∙ past_rows rows more none.1
+
+-- there is no verdict of rows and others behind them, so none of those others
+pub back_of_none : (rows more : List Row) → first_verdict (rows ++ more) ≡ None → first_verdict more ≡ None
+back_of_none [] more h = h
+back_of_none (row ∷ rows) more h = by_test row.0 h (back_of_none rows more) where
+  by_test : (b : Bool) → cond b (Some row.1) (first_verdict (rows ++ more)) ≡ None → (first_verdict (rows ++ more) ≡ None → first_verdict more ≡ None) → first_verdict more ≡ None
+  by_test true k rest = absurd cc
+  by_test false k rest = rest k
+
+-- nothing is wrong with the content of a rule
+pub record IsSoundContent (faults : RuleFaults) : Type 0 where
+  pub key_good : faults.key_odd ≡ false
+  pub group_held : faults.group_missing ≡ false
+  pub classifier_held : faults.classifier_missing ≡ false
+  pub priority_within : faults.priority_too_great ≡ false
+  pub key_fits : faults.key_wrong ≡ false
+  pub action_set : faults.action_unset ≡ false
+  pub queue_right : faults.queue_wrong ≡ false
+  pub room_in_group : faults.group_full ≡ false
+
+pub sound_content : (faults : RuleFaults) → NoneHolds (rule_rows faults) → IsSoundContent faults
+sound_content faults none = record {
+  key_good = none.0;
+  group_held = none.1.0;
+  classifier_held = none.1.1.0;
+  priority_within = none.1.1.1.0;
+  key_fits = none.1.1.1.1.0;
+  action_set = none.1.1.1.1.1.0;
+  queue_right = none.1.1.1.1.1.1.0;
+  room_in_group = none.1.1.1.1.1.1.1.0;
+}
+
+pub no_rule_row : (faults : RuleFaults) → IsSoundContent faults → NoneHolds (rule_rows faults)
+no_rule_row faults sound = (sound.key_good, (sound.group_held, (sound.classifier_held, (sound.priority_within, (sound.key_fits, (sound.action_set, (sound.queue_right, (sound.room_in_group, tt))))))))
+
+module _ (in_use : ℕ) (opcode : Option ℕ) (more : List Row) where
+  -- the header is cut
+  pub header_verdict : first_verdict (layout_rows in_use opcode (Err wire_err.ShortHeader) ++ more) ≡ Some invalid_command
+  header_verdict = refl
+
+  -- there is a header, and its opcode isn't in use
+  pub opcode_verdict : (read : Result Command WireErr) → is_header_cut read ≡ false → is_opcode_unused in_use opcode ≡ true → first_verdict (layout_rows in_use opcode read ++ more) ≡ Some invalid_opcode
+  opcode_verdict read whole unused = by_tests (is_header_cut read) (is_opcode_unknown read) (is_opcode_unused in_use opcode) whole unused where
+    by_tests : (cut unknown b : Bool) → cut ≡ false → b ≡ true → cond cut (Some invalid_command) (cond (unknown || b) (Some invalid_opcode) (cond (is_group_other read) (Some invalid_group) (cond (is_member_other read) (Some invalid_member) (cond (is_data_cut read) (Some invalid_command) (first_verdict more))))) ≡ Some invalid_opcode
+    by_tests true unknown b h k = absurd cc
+    by_tests false true b h k = refl
+    by_tests false false true h k = refl
+    by_tests false false false h k = absurd cc
+
+  -- the opcode is in use, and the bytes lay out no command
+  pub fault_row : (fault : WireErr) → is_opcode_unused in_use opcode ≡ false → first_verdict (layout_rows in_use opcode (Err fault) ++ more) ≡ Some (fault_verdict fault)
+  fault_row wire_err.ShortHeader used = refl
+  fault_row (wire_err.Opcode op) used = refl
+  fault_row (wire_err.Group group) used = rw used refl
+  fault_row (wire_err.Member member) used = rw used refl
+  fault_row wire_err.ShortData used = rw used refl
+
+  -- the opcode is in use, and the bytes lay out a command
+  pub command_row : (command : Command) → is_opcode_unused in_use opcode ≡ false → first_verdict (layout_rows in_use opcode (Ok command) ++ more) ≡ first_verdict more
+  command_row command used = rw used refl

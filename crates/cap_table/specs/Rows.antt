@@ -1,0 +1,63 @@
+-- Rows of conditions, each with the verdict that is given where it is the first that holds. Which refusal has which status
+-- and qualifier is this project's own; the statuses are errno's.
+use Rattle.std.specs.Prelude.{◌≡◌, Bool, false, List, [], ◌∷◌, Option, Some, None, Result, Ok, Err, if◌then◌else◌}
+use Rattle.cap_table.specs.declared.verdict.Verdict.{Verdict}
+
+-- EINVAL: the command's bytes are too few
+abbrev pub invalid_command : Verdict
+invalid_command = record { status = 22; qualifier = 1 }
+
+-- EINVAL: the opcode isn't in use
+abbrev pub invalid_opcode : Verdict
+invalid_opcode = record { status = 22; qualifier = 2 }
+
+-- EINVAL: a field of the command's data
+abbrev pub invalid_field : Verdict
+invalid_field = record { status = 22; qualifier = 3 }
+
+-- EINVAL: the group type
+abbrev pub invalid_group : Verdict
+invalid_group = record { status = 22; qualifier = 4 }
+
+-- EINVAL: the group member's id
+abbrev pub invalid_member : Verdict
+invalid_member = record { status = 22; qualifier = 5 }
+
+-- EEXIST: an object of the type has the id
+abbrev pub already_there : Verdict
+already_there = record { status = 17; qualifier = 3 }
+
+-- ENOSPC: a limit is reached
+abbrev pub no_space : Verdict
+no_space = record { status = 28; qualifier = 6 }
+
+-- ENXIO: no object has the id
+abbrev pub no_object : Verdict
+no_object = record { status = 6; qualifier = 6 }
+
+-- ENOMEM: no verdict of the table; a device whose change finds no memory answers it
+abbrev pub no_memory : Verdict
+no_memory = record { status = 12; qualifier = 6 }
+
+-- a condition, and the verdict where it holds
+abbrev pub Row : Type 0
+Row = Bool × Verdict
+
+-- the verdict of the first row that holds
+abbrev pub first_verdict : List Row → Option Verdict
+first_verdict [] = None
+first_verdict (row ∷ rows) = if row.0 then Some row.1 else first_verdict rows
+
+-- what is asked for, unless there is a verdict against it
+abbrev pub ok_unless : {X : Type 0} → Option Verdict → X → Result X Verdict
+ok_unless None asked = Ok asked
+ok_unless (Some verdict) asked = Err verdict
+
+-- what is asked for, unless a row holds
+abbrev pub unless_refused : {X : Type 0} → List Row → X → Result X Verdict
+unless_refused rows asked = ok_unless (first_verdict rows) asked
+
+-- no row holds
+abbrev pub NoneHolds : List Row → Type 0
+NoneHolds [] = Unit {0}
+NoneHolds (row ∷ rows) = (row.0 ≡ false) × NoneHolds rows

@@ -1,0 +1,54 @@
+-- One step of the object machine, and its runs. This project's subset of the draft's administration commands.
+use Rattle.std.specs.Prelude.{ℕ, ◌≡◌, ◌≢◌, List, [], ◌∷◌, Option, Some, None}
+use Rattle.ff_headers.specs.Changes.{step}
+use Rattle.admin_wire.specs.Numbers.{le16_at}
+use Rattle.admin_wire.specs.Replies.{reply_bytes}
+use Rattle.cap_table.specs.States.{DeviceState}
+use Rattle.cap_table.specs.Verdicts.{verdict_of}
+use Rattle.cap_table.specs.declared.answer.Answer.{Answer}
+use Rattle.cap_table.specs.declared.answer.Effect.{Effect}
+use Rattle.cap_table.specs.declared.answer.Effect.TheVariants.{Nothing, Change}
+
+-- the reply's bytes: status, qualifier, four zero bytes and the result, cut to the room
+abbrev pub reply_in : Option Answer → ℕ → List ℕ
+reply_in None room = []
+reply_in (Some answer) room = reply_bytes answer.reply room
+
+abbrev pub effect_in : Option Answer → Effect
+effect_in None = Nothing
+effect_in (Some answer) = answer.effect
+
+-- the state with an effect: a change is made where it is sound within the device's limits
+abbrev pub with_effect : DeviceState → Effect → DeviceState
+with_effect state Nothing = state
+with_effect state (Change change) = record state { objects = step state.caps.limits state.objects change }
+
+-- the effect of a command
+abbrev pub effect_of : DeviceState → List ℕ → ℕ → Effect
+effect_of state bytes room = effect_in (verdict_of state bytes room)
+
+-- the reply to a command
+abbrev pub reply_of : DeviceState → List ℕ → ℕ → List ℕ
+reply_of state bytes room = reply_in (verdict_of state bytes room) room
+
+-- the state that a command leaves
+abbrev pub next_state : DeviceState → List ℕ → ℕ → DeviceState
+next_state state bytes room = with_effect state (effect_of state bytes room)
+
+-- the state that commands leave, each of its bytes and its room, one after another
+unfoldable pub state_after : DeviceState → List (List ℕ × ℕ) → DeviceState
+state_after state [] = state
+state_after state (command ∷ commands) = state_after (next_state state command.0 command.1) commands
+
+-- an effect that the machine has in the state
+abbrev pub IsEffect : DeviceState → Effect → Type 0
+IsEffect state effect = (bytes : List ℕ) × (room : ℕ) × (effect_of state bytes room ≡ effect)
+
+-- the status that a reply begins with
+abbrev pub status_of : List ℕ → ℕ
+status_of reply = le16_at reply 0
+
+-- a command that is answered with another status than 0, or with no bytes, changes nothing
+pub record OnlyObeyedChanges (reply : List ℕ) (effect : Effect) : Type 0 where
+  pub refused : status_of reply ≢ 0 → effect ≡ Nothing
+  pub silent : reply ≡ [] → effect ≡ Nothing

@@ -1,0 +1,61 @@
+//! What a command is answered with, and what it changes.
+
+ghost use Rattle.std.specs.Prelude.{◌≡◌};
+ghost use Rattle.cap_table.specs.Verdicts.{bare_reply, refused, obeyed};
+
+use crate::verdict::Verdict;
+use admin_wire::Reply;
+use arrayvec::ArrayVec;
+use ff_headers::Change;
+
+/// What an answered command changes.
+#[derive(Debug, Drop)]
+pub enum Effect {
+    Nothing,
+    /// One change to the groups, classifiers and rules.
+    Change(Change),
+}
+
+/// The answer to a command, whatever room there is for its reply.
+#[derive(Debug, Drop)]
+pub struct Answer {
+    pub reply: Reply,
+    pub effect: Effect,
+}
+
+impl Answer {
+    /// A refusal has no result and no effect.
+    pub fn refused(verdict: Verdict) -> Answer
+        ensures { result ≡ refused verdict }
+    {
+        Answer {
+            reply: bare_reply(verdict),
+            effect: Effect::Nothing,
+        }
+    }
+
+    /// The command is obeyed: status and qualifier are 0, and there is no result.
+    pub fn obeyed(effect: Effect) -> Answer
+        ensures { result ≡ obeyed effect }
+    {
+        let done = Verdict {
+            status: 0,
+            qualifier: 0,
+        };
+        Answer {
+            reply: bare_reply(done),
+            effect,
+        }
+    }
+}
+
+/// A reply that has no result.
+fn bare_reply(verdict: Verdict) -> Reply
+    ensures { result ≡ bare_reply verdict }
+{
+    Reply {
+        status: verdict.status,
+        qualifier: verdict.qualifier,
+        result: ArrayVec::new(),
+    }
+}

@@ -1,0 +1,205 @@
+//! What a device offers, and what its driver set of it.
+
+ghost use Rattle.std.specs.Prelude.{◌≡◌, ◌≤◌};
+ghost use Rattle.std.specs.List.Sorted.{IsStrictlyIncreasing};
+ghost use Rattle.ff_headers.specs.Shapes.{codes_of};
+ghost use Rattle.cap_table.specs.Caps.{AreCaps, AtMost, greatest_limits, all_selectors, same_as, unset};
+ghost use Rattle.cap_table.specs.Caps.{is_action_set, are_supported};
+
+use crate::support::is_supported;
+use arrayvec::ArrayVec;
+use ff_headers::{Kind, Limits, Selector};
+use std::marker::Model;
+
+/// The action byte of a rule that drops.
+pub const DROP_ACTION: u8 = 1;
+
+/// The action byte of a rule that sends to a receive queue.
+pub const QUEUE_ACTION: u8 = 2;
+
+/// What a device offers: its queue pairs, its limits on objects, and the selectors that a classifier may ask for, with
+/// types that rise strictly. Its actions are always drop and queue.
+#[derive(Debug, Drop)]
+pub struct DeviceCaps {
+    pairs: u8,
+    limits: Limits,
+    selectors: ArrayVec<Selector, 5>,
+}
+
+impl Model for DeviceCaps {
+    ghost use Rattle.cap_table.specs.Caps.{CapsParts, AreCaps};
+
+    ghost Value = { CapsParts };
+
+    ghost view = { λ c. record { pairs = c.pairs; limits = c.limits; selectors = c.selectors.items } };
+
+    ghost invariant = { λ c. AreCaps (record { pairs = c.pairs; limits = c.limits; selectors = c.selectors.items }) };
+}
+
+impl DeviceCaps {
+    /// A device with 1 to 16 queue pairs, limits up to the greatest, and these selectors, whose types rise strictly.
+    pub fn new(pairs: u8, limits: Limits, selectors: ArrayVec<Selector, 5>) -> DeviceCaps
+        requires some_pair { 1 ≤ pairs }
+        requires pairs { pairs ≤ 16 }
+        requires limits { AtMost limits greatest_limits }
+        requires selectors { IsStrictlyIncreasing (codes_of selectors.items) }
+        ensures { result ≡ record { pairs = pairs; limits = limits; selectors = selectors.items } }
+    {
+        DeviceCaps {
+            pairs,
+            limits,
+            selectors,
+        }
+    }
+
+    /// A device with 1 to 16 queue pairs, limits up to the greatest, and for each header a selector of ones, any part of which
+    /// may be asked for.
+    pub fn with_all_selectors(pairs: u8, limits: Limits) -> DeviceCaps
+        requires some_pair { 1 ≤ pairs }
+        requires pairs { pairs ≤ 16 }
+        requires limits { AtMost limits greatest_limits }
+        ensures { result ≡ record { pairs = pairs; limits = limits; selectors = all_selectors } }
+    {
+        DeviceCaps::new(pairs, limits, all_selectors())
+    }
+
+    /// The queue pairs: 1 to 16.
+    pub fn pairs(&self) -> u8
+        ensures value { result ≡ self.now.pairs }
+        ensures ranges { AreCaps self.now }
+    {
+        self.pairs
+    }
+
+    /// The most objects that the device can hold.
+    pub fn limits(&self) -> &Limits
+        ensures value { result.now ≡ self.now.limits }
+        ensures ranges { AreCaps self.now }
+    {
+        &self.limits
+    }
+
+    /// The selectors that a classifier may ask for, by rising type.
+    pub fn selectors(&self) -> &[Selector]
+        ensures value { result.now ≡ self.now.selectors }
+        ensures ranges { AreCaps self.now }
+    {
+        self.selectors.as_slice()
+    }
+}
+
+/// What a driver set: its limits, selectors with types that rise strictly, and its actions.
+#[derive(Debug, Drop)]
+pub struct DriverCaps {
+    limits: Limits,
+    selectors: ArrayVec<Selector, 5>,
+    drop: bool,
+    queue: bool,
+}
+
+impl Model for DriverCaps {
+    ghost use Rattle.std.specs.List.Sorted.{IsStrictlyIncreasing};
+    ghost use Rattle.ff_headers.specs.Shapes.{codes_of};
+    ghost use Rattle.cap_table.specs.Caps.{DriverParts};
+
+    ghost Value = { DriverParts };
+
+    ghost view = { λ c. record { limits = c.limits; selectors = c.selectors.items; drops = c.drop; queues = c.queue } };
+
+    ghost invariant = { λ c. IsStrictlyIncreasing (codes_of c.selectors.items) };
+}
+
+impl DriverCaps {
+    /// Before the driver sets anything: no object, no selector and no action.
+    pub fn unset() -> DriverCaps
+        ensures { result ≡ unset }
+    {
+        DriverCaps {
+            limits: Limits {
+                groups: 0,
+                classifiers: 0,
+                rules: 0,
+                per_group: 0,
+                last_priority: 0,
+                selectors: 0,
+            },
+            selectors: ArrayVec::new(),
+            drop: false,
+            queue: false,
+        }
+    }
+
+    /// All that the device offers.
+    pub fn same_as(device: &DeviceCaps) -> DriverCaps
+        ensures { result ≡ same_as device.now }
+    {
+        DriverCaps {
+            limits: device.limits,
+            selectors: copied(&device.selectors),
+            drop: true,
+            queue: true,
+        }
+    }
+
+    /// The most objects that the driver asked for.
+    pub fn limits(&self) -> &Limits
+        ensures { result.now ≡ self.now.limits }
+    {
+        &self.limits
+    }
+
+    /// The selectors that the driver asked for, by rising type.
+    pub fn selectors(&self) -> &[Selector]
+        ensures value { result.now ≡ self.now.selectors }
+        ensures rising { IsStrictlyIncreasing (codes_of self.now.selectors) }
+    {
+        self.selectors.as_slice()
+    }
+
+    /// Whether the driver set the action with this byte.
+    pub fn has_action(&self, action: u8) -> bool
+        ensures { result ≡ is_action_set self.now action }
+    {
+        match action {
+            DROP_ACTION => self.drop,
+            QUEUE_ACTION => self.queue,
+            _ => false,
+        }
+    }
+
+    /// Whether the driver's capability has each selector of a list, and no more than its limit.
+    pub fn has_selectors(&self, list: &[Selector]) -> bool
+        ensures { result ≡ are_supported self.now.limits.selectors self.now.selectors list.now }
+    {
+        list.iter().enumerate().all(|(place, selector)| is_supported(
+            self.limits.selectors,
+            self.selectors.as_slice(),
+            place,
+            selector,
+        ))
+    }
+}
+
+/// The selectors, in a list that takes no memory.
+fn copied(selectors: &ArrayVec<Selector, 5>) -> ArrayVec<Selector, 5>
+    ensures { result.items ≡ selectors.now.items }
+{
+    let mut copies = ArrayVec::new();
+    for selector in selectors.as_slice() {
+        copies.push(selector.copy());
+    }
+    copies
+}
+
+/// A selector of ones for each header, of which any part may be asked for.
+fn all_selectors() -> ArrayVec<Selector, 5>
+    ensures { result.items ≡ all_selectors }
+{
+    let mut selectors = ArrayVec::new();
+    selectors.push(Selector::new(Kind::Eth, 1, &[255; 14]));
+    selectors.push(Selector::new(Kind::Ipv4, 1, &[255; 20]));
+    selectors.push(Selector::new(Kind::Ipv6, 1, &[255; 40]));
+    selectors.push(Selector::new(Kind::Tcp, 1, &[255; 20]));
+    selectors.push(Selector::new(Kind::Udp, 1, &[255; 8]));
+    selectors
+}

@@ -1,0 +1,5 @@
+pub mod EntryLemmas
+pub mod CountedLemmas
+pub mod LoopLemmas
+pub mod StoreLemmas
+pub mod RuleLemmas
