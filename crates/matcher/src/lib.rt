@@ -1,0 +1,25 @@
+//! Tables of flow-filter rules that are searched: changes are made to them one by one, and a frame's headers find the
+//! first rule that matches.
+//!
+//! The rules are those of the flow filters in the Virtio 1.4 draft (network device, "Flow filter"); that the smaller
+//! priority comes first, and the order of rules by id where priorities are equal, are this project's own.
+//!
+//! It promises that [`Tables::find`] gives the first of all rules that match, by group priority, rule priority and id,
+//! or none exactly where no rule matches; that [`Tables::apply`] leaves what ff_headers defines as a change's effect;
+//! and that [`Tables::count`] is how many changes were made. Tables are made with room for their limits, and no later
+//! call takes memory.
+//!
+//! In specs/, `Tables` is what contracts see of tables, `Findings` what a search gives, and `Candidates` what the walk
+//! keeps of the rules that match. The search is the plain one, a walk over all rules; it stands in `scan`, and later
+//! searches will be compared with it.
+#![tactic(auto)]
+
+mod found;
+pub mod laws;
+mod scan;
+mod tables;
+#[cfg(test)]
+mod tests;
+
+pub use found::Found;
+pub use tables::Tables;

@@ -1,0 +1,86 @@
+//! Tables of rules: what changes leave, and what is found in them.
+
+ghost use Rattle.std.specs.Prelude.{◌≡◌, ◌↔◌, IfOk, IfSome, IsNone};
+ghost use Rattle.ff_headers.specs.Objects.{IsWellFormed};
+ghost use Rattle.ff_headers.specs.Places.{RuleEntry, IsMatching, action_of};
+ghost use Rattle.matcher.specs.Tables.{no_changes, applied};
+ghost use Rattle.matcher.specs.Findings.{found_in, IsFirstUnder};
+
+use crate::found::Found;
+use crate::scan::first_candidate;
+use ff_headers::{Action, Change, Headers, Limits, Steps};
+use ff_store::Store;
+use std::alloc::{AllocError, Global};
+use std::marker::Model;
+use std::sync::ledger::Ledger;
+
+/// Groups, classifiers and rules within limits, with a count of the changes that were made to them.
+#[derive(Drop)]
+pub struct Tables {
+    store: Store,
+    count: u64,
+}
+
+impl Model for Tables {
+    ghost use Rattle.matcher.specs.Tables.{TableState, tables_with};
+
+    ghost Value = { TableState };
+
+    ghost view = { λ t. tables_with t.store.limits t.store.objects t.count };
+}
+
+impl Tables {
+    /// Tables with no rule, and room for the limits. No later call takes memory.
+    pub fn new(alloc: Global, limits: &Limits) -> Result<Tables, AllocError>
+        ensures { IfOk result (λ tables. tables ≡ no_changes limits.now) }
+    {
+        Ok(Tables {
+            store: Store::new(alloc, limits)?,
+            count: 0,
+        })
+    }
+
+    /// The limits for which there is room.
+    pub fn limits(&self) -> &Limits
+        ensures value { result.now ≡ self.now.limits }
+        ensures well_formed { IsWellFormed self.now.limits self.now.objects }
+    {
+        self.store.limits()
+    }
+
+    /// How many changes were made, sound or not. `Close` is none, and the count stands still at 2^64 - 1.
+    pub fn count(&self) -> u64
+        ensures { result ≡ self.now.count }
+    {
+        self.count
+    }
+
+    /// Makes a change, where it is sound, and counts it.
+    pub fn apply(&mut self, change: Change)
+        ensures { self.new ≡ applied self.old change }
+    {
+        self.count = change.count_after(self.count);
+        self.store.apply(change);
+    }
+
+    /// The first rule that matches a frame with these headers, and what happens to the frame. It counts no step.
+    pub fn find<L: Ledger>(&self, headers: &Headers, steps: &mut Steps<L>) -> Found
+        ensures value { result ≡ found_in self.now.objects headers.now }
+        ensures action { result.action ≡ action_of self.now.objects headers.now }
+        ensures first { IfSome result.rule (IsFirstUnder self.now.objects headers.now) }
+        ensures none { IsNone result.rule ↔ ((entry : RuleEntry) → ¬ IsMatching self.now.objects headers.now entry) }
+        ensures cost { steps.new ≡ steps.old }
+    {
+        let _well_formed = self.store.limits();
+        match first_candidate(&self.store, headers) {
+            Some(first) => Found {
+                action: first.action,
+                rule: Some(first.place.2),
+            },
+            None => Found {
+                action: Action::Default,
+                rule: None,
+            },
+        }
+    }
+}
