@@ -3,10 +3,10 @@ use Rattle.std.proofs.Common.{◌≡◌, ℕ, true, false, ◌&&◌, List, [], �
 use Rattle.std.specs.Option.{option_map, option_and_then}
 use Rattle.std.specs.Str.{bytes_eq}
 use Rattle.vnff_base.specs.Lines.{NumberedLine}
-use Rattle.vnff_run.specs.Caps.{CapsParts}
+use Rattle.cap_table.specs.Caps.{CapsParts}
 use Rattle.vnff_run.specs.Script.{is_version, device_of, caps_of, item_of, frame_of, admin_of, items_of, script_behind, script_of_lines}
 use Rattle.std.specs.Prelude.{Err, MatchOption}
-use Rattle.vnff_run.specs.Endings.{IsSpelled}
+use Rattle.vnff_run.specs.Readings.{IsSpelled}
 use Rattle.vnff_run.specs.declared.script.Item.{Item}
 use Rattle.vnff_run.specs.declared.script.Script.{Script}
 use Rattle.vnff_run.specs.declared.script.ScriptFault.{ScriptFault}

@@ -4,8 +4,8 @@ use Rattle.std.specs.List.{range_with_len}
 use Rattle.std.proofs.lemmas.List.{take_more}
 use Rattle.std.proofs.lemmas.List.FromFn.{get_or-range_with_len, length-range_with_len}
 use Rattle.std.proofs.lemmas.Option.{slice_get_read}
-use Rattle.vnff_run.specs.States.{DeviceState}
-use Rattle.vnff_run.specs.Steps.{state_after, next_state}
+use Rattle.cap_table.specs.States.{DeviceState}
+use Rattle.cap_table.specs.Steps.{state_after, next_state}
 use Rattle.vnff_run.specs.Replay.{item_line, line_in, line_at, state_behind}
 use Rattle.vnff_run.specs.declared.script.Item.{Item}
 use Rattle.vnff_run.specs.declared.script.Item.TheVariants.{Admin, Frame}

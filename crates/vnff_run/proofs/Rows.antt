@@ -9,17 +9,20 @@ use Rattle.ff_headers.specs.Shapes.{shape_fault}
 use Rattle.ff_headers.specs.Matching.{fits, matches}
 use Rattle.ff_headers.specs.Places.{rule_matches, first_rule, action_of}
 use Rattle.ff_headers.specs.Frames.{headers_of}
+use Rattle.ff_headers.specs.Fields.{is_allowed}
 use Rattle.ff_headers.specs.Changes.{is_sound, changed, step}
 use Rattle.admin_wire.specs.Numbers.{le16_at, le32_at, le64_at}
 use Rattle.admin_wire.specs.Lists.{whole_entry, entries_of, selector_of, raw_list, list_of}
 use Rattle.admin_wire.specs.Objects.{group_of, classifier_of, raw_key, rule_of, object_of}
 use Rattle.admin_wire.specs.Wire.{header_of, opcode_of, head_of, create_of, command_of}
 use Rattle.admin_wire.specs.Replies.{whole_reply}
-use Rattle.vnff_run.specs.Verdicts.{answer_of, verdict_of}
-use Rattle.vnff_run.specs.Steps.{state_after}
+use Rattle.cap_table.specs.Verdicts.{answer_of, verdict_of}
+use Rattle.cap_table.specs.Steps.{state_after}
 use Rattle.vnff_run.specs.Script.{number_within, bytes_within, is_version, caps_of, device_of, admin_of, frame_of, item_of, items_of, script_of_lines, is_built_command}
 use Rattle.vnff_run.specs.Replay.{action_text, reply_line, frame_line, item_line, line_at, lines_of}
-use Rattle.vnff_run.specs.Outcomes.{Outcome, outcome_of}
+use Rattle.vnff_run.specs.Forms.{form_of}
+use Rattle.vnff_run.specs.Inputs.{script_in}
+use Rattle.vnff_run.specs.Outcomes.{Outcome, outcome_in, outcome_of}
 
 -- the words `replay SCRIPT`, and a shelf that has this text under each name
 replay_of : String → Outcome
@@ -30,21 +33,21 @@ replayed text = record { status = 0; text = codes text }
 
 -- a group, a classifier and a rule are created, and a frame goes to the rule's queue
 one_rule : replay_of "vnff 1\ndevice 4 2 4 8 8 15 3 ready\nadmin 0a0000000000000000000000000000000000000000000000000200000100000000000000000000000500 8\nadmin 0a0000000000000000000000000000000000000000000000010200000700000000000000000000000100000000000000010000000e000000000000000000000000000000ffff 8\nadmin 0a0000000000000000000000000000000000000000000000020200000900000000000000000000000100000007000000000e0200020000000000000000000000000000000800 8\nframe ffffffffffff0200000000010800\n" ≡ replayed "reply 0000000000000000\nreply 0000000000000000\nreply 0000000000000000\nframe queue 1\n"
-unfolding replay_of replayed digits hex_bytes number_of words_of shape_fault fits matches rule_matches first_rule action_of headers_of is_sound changed step le16_at le32_at le64_at whole_entry entries_of selector_of raw_list list_of group_of classifier_of raw_key rule_of object_of header_of opcode_of head_of create_of command_of whole_reply answer_of verdict_of state_after number_within bytes_within is_version caps_of device_of admin_of frame_of item_of items_of script_of_lines is_built_command action_text reply_line frame_line item_line line_at lines_of
+unfolding replay_of replayed form_of script_in outcome_in digits hex_bytes number_of words_of shape_fault fits matches rule_matches first_rule action_of headers_of is_allowed is_sound changed step le16_at le32_at le64_at whole_entry entries_of selector_of raw_list list_of group_of classifier_of raw_key rule_of object_of header_of opcode_of head_of create_of command_of whole_reply answer_of verdict_of state_after number_within bytes_within is_version caps_of device_of admin_of frame_of item_of items_of script_of_lines is_built_command action_text reply_line frame_line item_line line_at lines_of
 one_rule = refl
 
 -- a command of 23 bytes
 short_header : replay_of "vnff 1\ndevice 4 2 4 8 8 15 3 ready\nadmin 0a00000000000000000000000000000000000000000000 8\n" ≡ replayed "reply 1600010000000000\n"
-unfolding replay_of replayed digits hex_bytes number_of words_of shape_fault fits matches rule_matches first_rule action_of headers_of is_sound changed step le16_at le32_at le64_at whole_entry entries_of selector_of raw_list list_of group_of classifier_of raw_key rule_of object_of header_of opcode_of head_of create_of command_of whole_reply answer_of verdict_of state_after number_within bytes_within is_version caps_of device_of admin_of frame_of item_of items_of script_of_lines is_built_command action_text reply_line frame_line item_line line_at lines_of
+unfolding replay_of replayed form_of script_in outcome_in digits hex_bytes number_of words_of shape_fault fits matches rule_matches first_rule action_of headers_of is_allowed is_sound changed step le16_at le32_at le64_at whole_entry entries_of selector_of raw_list list_of group_of classifier_of raw_key rule_of object_of header_of opcode_of head_of create_of command_of whole_reply answer_of verdict_of state_after number_within bytes_within is_version caps_of device_of admin_of frame_of item_of items_of script_of_lines is_built_command action_text reply_line frame_line item_line line_at lines_of
 short_header = refl
 
 -- a command whose reply has no room is not carried out
 small_room : replay_of "vnff 1\ndevice 4 2 4 8 8 15 3 ready\nadmin 0a0000000000000000000000000000000000000000000000000200000100000000000000000000000500 7\nadmin 0a0000000000000000000000000000000000000000000000000200000100000000000000000000000500 8\n" ≡ replayed "reply -\nreply 0000000000000000\n"
-unfolding replay_of replayed digits hex_bytes number_of words_of shape_fault fits matches rule_matches first_rule action_of headers_of is_sound changed step le16_at le32_at le64_at whole_entry entries_of selector_of raw_list list_of group_of classifier_of raw_key rule_of object_of header_of opcode_of head_of create_of command_of whole_reply answer_of verdict_of state_after number_within bytes_within is_version caps_of device_of admin_of frame_of item_of items_of script_of_lines is_built_command action_text reply_line frame_line item_line line_at lines_of
+unfolding replay_of replayed form_of script_in outcome_in digits hex_bytes number_of words_of shape_fault fits matches rule_matches first_rule action_of headers_of is_allowed is_sound changed step le16_at le32_at le64_at whole_entry entries_of selector_of raw_list list_of group_of classifier_of raw_key rule_of object_of header_of opcode_of head_of create_of command_of whole_reply answer_of verdict_of state_after number_within bytes_within is_version caps_of device_of admin_of frame_of item_of items_of script_of_lines is_built_command action_text reply_line frame_line item_line line_at lines_of
 small_room = refl
 
 -- creates that are refused: a queue that isn't a receive queue's or is past the pairs, a priority above the last, a
 -- classifier that isn't held, an id and a priority that are taken, a limit that is reached
 refused_creates : replay_of "vnff 1\ndevice 4 2 4 8 8 15 3 ready\nadmin 0a0000000000000000000000000000000000000000000000000200000100000000000000000000000500 8\nadmin 0a0000000000000000000000000000000000000000000000010200000700000000000000000000000100000000000000010000000e000000000000000000000000000000ffff 8\nadmin 0a0000000000000000000000000000000000000000000000020200000900000000000000000000000100000007000000000e0200030000000000000000000000000000000800 8\nadmin 0a0000000000000000000000000000000000000000000000020200000900000000000000000000000100000007000000000e0200080000000000000000000000000000000800 8\nadmin 0a0000000000000000000000000000000000000000000000020200000900000000000000000000000100000007000000100e0200020000000000000000000000000000000800 8\nadmin 0a0000000000000000000000000000000000000000000000020200000900000000000000000000000100000008000000000e0200020000000000000000000000000000000800 8\nadmin 0a0000000000000000000000000000000000000000000000000200000100000000000000000000000500 8\nadmin 0a0000000000000000000000000000000000000000000000000200000200000000000000000000000500 8\nadmin 0a0000000000000000000000000000000000000000000000000200000200000000000000000000000600 8\nadmin 0a0000000000000000000000000000000000000000000000000200000300000000000000000000000700 8\n" ≡ replayed "reply 0000000000000000\nreply 0000000000000000\nreply 1600030000000000\nreply 1600030000000000\nreply 1600030000000000\nreply 0600060000000000\nreply 1100030000000000\nreply 1600030000000000\nreply 0000000000000000\nreply 1c00060000000000\n"
-unfolding replay_of replayed digits hex_bytes number_of words_of shape_fault fits matches rule_matches first_rule action_of headers_of is_sound changed step le16_at le32_at le64_at whole_entry entries_of selector_of raw_list list_of group_of classifier_of raw_key rule_of object_of header_of opcode_of head_of create_of command_of whole_reply answer_of verdict_of state_after number_within bytes_within is_version caps_of device_of admin_of frame_of item_of items_of script_of_lines is_built_command action_text reply_line frame_line item_line line_at lines_of
+unfolding replay_of replayed form_of script_in outcome_in digits hex_bytes number_of words_of shape_fault fits matches rule_matches first_rule action_of headers_of is_allowed is_sound changed step le16_at le32_at le64_at whole_entry entries_of selector_of raw_list list_of group_of classifier_of raw_key rule_of object_of header_of opcode_of head_of create_of command_of whole_reply answer_of verdict_of state_after number_within bytes_within is_version caps_of device_of admin_of frame_of item_of items_of script_of_lines is_built_command action_text reply_line frame_line item_line line_at lines_of
 refused_creates = refl

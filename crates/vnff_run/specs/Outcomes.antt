@@ -1,48 +1,89 @@
--- What a run of the program may end with, this project's own: a status, and the text that it writes.
-use Rattle.std.specs.Prelude.{ℕ, List, [], ◌∷◌, ◌++◌, length, codes, Option, Some, None, Result, Ok, Err, nat_lt, if◌then◌else◌}
-use Rattle.std.specs.Str.{bytes_eq}
+-- What a run of the program ends with, this project's own: a status, and the text that it writes.
+use Rattle.std.specs.Prelude.{ℕ, List, [], ◌++◌, codes, Option, Some, None, Result, Ok, Err}
 use Rattle.vnff_base.specs.Shelves.{Files}
-use Rattle.vnff_run.specs.Script.{built_script_of}
+use Rattle.vnff_run.specs.Forms.{WordForm, Replay, form_of}
+use Rattle.vnff_run.specs.Inputs.{InputFault, Missing, Refused, script_in}
 use Rattle.vnff_run.specs.Replay.{replay_text, line_feed}
-use Rattle.vnff_run.specs.declared.program.TheConstants.{FILE_LIMIT}
-use Rattle.vnff_run.specs.declared.script.Script.{Script}
 use Rattle.vnff_run.specs.declared.script.Reason.{Reason}
+use Rattle.vnff_run.specs.declared.script.Reason.TheVariants.{Unbuilt}
+use Rattle.vnff_run.specs.declared.stop.FileKind.{FileKind}
+use Rattle.vnff_run.specs.declared.stop.FileKind.TheVariants as kinds
+use Rattle.vnff_run.specs.declared.stop.RefusedInput.{RefusedInput}
+use Rattle.vnff_run.specs.declared.stop.RefusedInput.TheVariants.{TooLong, BadScript}
+
+-- The exit statuses.
+-- everything was done
+abbrev pub done_status : ℕ
+done_status = 0
+
+-- an input was refused
+abbrev pub refused_status : ℕ
+refused_status = 1
+
+-- the words are no form
+abbrev pub words_status : ℕ
+words_status = 2
+
+-- a read failed
+abbrev pub read_status : ℕ
+read_status = 3
+
+-- a write failed
+abbrev pub write_status : ℕ
+write_status = 4
+
+-- memory ran out
+abbrev pub memory_status : ℕ
+memory_status = 5
 
 -- a status and the text that was written
 pub record Outcome : Type 0 where
   pub status : ℕ
   pub text : List ℕ
 
+-- what a file was to be, in a refusal's line
+abbrev pub kind_word : FileKind → List ℕ
+kind_word kinds.Script = codes "script"
+
+-- why a script is refused, in a refusal's line
+abbrev pub reason_word : Reason → List ℕ
+reason_word Unbuilt = codes "unbuilt"
+
+-- what is refused, and why: the rest of a refusal's line
+unfoldable pub refusal_words : RefusedInput → List ℕ
+refusal_words (TooLong kind) = kind_word kind ++ codes " too-long"
+refusal_words (BadScript line reason) = codes "script " ++ reason_word reason
+
+-- the line of a refusal; no line of a script is named yet
+unfoldable pub refusal_line : RefusedInput → List ℕ
+refusal_line refusal = codes "refused " ++ (refusal_words refusal ++ line_feed)
+
 abbrev pub silent : ℕ → Outcome
 silent status = record { status = status; text = [] }
 
-abbrev pub refused_too_long : List ℕ
-refused_too_long = codes "refused script too-long" ++ line_feed
+-- everything is done, and the text written
+abbrev pub done_with : List ℕ → Outcome
+done_with text = record { status = done_status; text = text }
 
-abbrev pub refused_unbuilt : List ℕ
-refused_unbuilt = codes "refused script unbuilt" ++ line_feed
+-- an input is at fault
+abbrev pub fault_outcome : InputFault → Outcome
+fault_outcome Missing = silent read_status
+fault_outcome (Refused refusal) = record { status = refused_status; text = refusal_line refusal }
 
--- a script is refused, or replayed
-abbrev pub of_script : Result Script (ℕ × Reason) → Outcome
-of_script (Ok script) = record { status = 0; text = replay_text script }
-of_script (Err fault) = record { status = 1; text = refused_unbuilt }
+-- what is done with an input, or the input's fault
+abbrev pub outcome_with : {A : Type 0} → (A → Outcome) → Result A InputFault → Outcome
+outcome_with run (Ok input) = run input
+outcome_with run (Err fault) = fault_outcome fault
 
--- a file is missing, or too long, or holds what may be a script
-abbrev pub of_file : Option (List ℕ) → Outcome
-of_file None = silent 3
-of_file (Some bytes) =
-    if nat_lt FILE_LIMIT (length bytes) then record { status = 1; text = refused_too_long }
-    else of_script (built_script_of bytes)
+-- the outcome of a form over files
+unfoldable pub outcome_in : WordForm → Files → Outcome
+outcome_in (Replay script) files = outcome_with (λ s. done_with (replay_text s)) (script_in script files)
 
--- the file that the words name, where they are `replay SCRIPT`
-abbrev pub script_name : List (List ℕ) → Option (List ℕ)
-script_name (form ∷ name ∷ []) = if bytes_eq form (codes "replay") then Some name else None
-script_name _ = None
-
-abbrev pub of_name : Files → Option (List ℕ) → Outcome
-of_name files None = silent 2
-of_name files (Some name) = of_file (files name)
+-- the outcome of what may be a form
+abbrev pub outcome_by : Option WordForm → Files → Outcome
+outcome_by None files = silent words_status
+outcome_by (Some form) files = outcome_in form files
 
 -- the outcome for words and files, where no shelf and no output fails but by a file that isn't there
 abbrev pub outcome_of : List (List ℕ) → Files → Outcome
-outcome_of words files = of_name files (script_name words)
+outcome_of words files = outcome_by (form_of words) files

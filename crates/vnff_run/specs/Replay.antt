@@ -6,8 +6,8 @@ use Rattle.ff_headers.specs.Places.{action_of}
 use Rattle.ff_headers.specs.declared.rule.Action.{Action}
 use Rattle.ff_headers.specs.declared.rule.Action.TheVariants.{Default, Drop, Queue}
 use Rattle.vnff_base.specs.Hex.{hex_text}
-use Rattle.vnff_run.specs.States.{DeviceState, start_state}
-use Rattle.vnff_run.specs.Steps.{reply_of, state_after}
+use Rattle.cap_table.specs.States.{DeviceState, start_state}
+use Rattle.cap_table.specs.Steps.{reply_of, state_after}
 use Rattle.vnff_run.specs.declared.script.Script.{Script}
 use Rattle.vnff_run.specs.declared.script.Item.{Item}
 use Rattle.vnff_run.specs.declared.script.Item.TheVariants.{Admin, Frame}

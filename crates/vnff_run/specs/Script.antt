@@ -15,9 +15,9 @@ use Rattle.admin_wire.specs.declared.command.RawList.TheVariants.{Good}
 use Rattle.admin_wire.specs.declared.error.WireErr.{WireErr}
 use Rattle.admin_wire.specs.declared.codes.TheConstants.{VIRTIO_ADMIN_CMD_RESOURCE_OBJ_CREATE}
 use Rattle.admin_wire.specs.Wire.{command_of, opcode_of}
-use Rattle.vnff_run.specs.Caps.{CapsParts, all_selectors}
-use Rattle.vnff_run.specs.States.{all_opcodes, is_opcode_in}
-use Rattle.vnff_run.specs.declared.start.Start.TheVariants.{Ready}
+use Rattle.cap_table.specs.Caps.{CapsParts, all_selectors}
+use Rattle.cap_table.specs.States.{all_opcodes, is_opcode_in}
+use Rattle.cap_table.specs.declared.start.Start.TheVariants.{Ready}
 use Rattle.vnff_run.specs.declared.script.Script.{Script}
 use Rattle.vnff_run.specs.declared.script.Item.{Item}
 use Rattle.vnff_run.specs.declared.script.Item.TheVariants.{Admin, Frame}

@@ -6,21 +6,20 @@ ghost use Rattle.std.specs.List.{list_all, list_any};
 ghost use Rattle.std.specs.Str.{bytes_eq};
 ghost use Rattle.ff_headers.specs.Kinds.{kind_code};
 ghost use Rattle.vnff_base.specs.Lines.{words_of, word_lines};
-ghost use Rattle.vnff_run.specs.Endings.{IsReadAs, IsSpelled};
+ghost use Rattle.vnff_run.specs.Readings.{AnswersScript, IsSpelled};
+ghost use Rattle.vnff_run.specs.Inputs.{file_limit};
 ghost use Rattle.vnff_run.specs.Script.{admin_of, built_script_of, bytes_within, caps_of, device_of};
 ghost use Rattle.vnff_run.specs.Script.{frame_of, is_built, is_built_command, is_built_opcode, is_version};
 ghost use Rattle.vnff_run.specs.Script.{item_of, items_of, number_within, script_behind, script_of};
 ghost use Rattle.vnff_run.specs.Script.{script_of_lines, selects_further};
 
-use crate::capabilities::DeviceCaps;
-use crate::opcodes::{ALL_OPCODES, is_opcode_in};
-use crate::program::FILE_LIMIT;
 use crate::script::{AdminLine, Item, Reason, Script, ScriptFault};
-use crate::start::Start;
+use admin_dev::Start;
 use admin_wire::{
     Command, ObjData, RawList, VIRTIO_ADMIN_CMD_RESOURCE_OBJ_CREATE, WireErr, opcode_of,
     read_command,
 };
+use cap_table::{DeviceCaps, has_opcode};
 use ff_headers::{Limits, Selector};
 use std::alloc::Global;
 use vnff_base::hex::{HexErr, hex_read};
@@ -33,8 +32,8 @@ const UNBUILT: ScriptFault = ScriptFault::Bad(0, Reason::Unbuilt);
 /// The script that the bytes spell, at most 67,108,864 of them. `Bad(0, Unbuilt)` comes exactly where they spell none that
 /// the program can run.
 pub fn read_script(alloc: Global, bytes: &[u8]) -> Result<Script, ScriptFault>
-    requires { length bytes.now ≤ FILE_LIMIT }
-    ensures { IsReadAs result (built_script_of bytes.now) }
+    requires { length bytes.now ≤ file_limit }
+    ensures { AnswersScript (built_script_of bytes.now) result }
 {
     let script = spelled_script(alloc, bytes)?;
     if !are_built(script.items.as_slice()) {
@@ -272,8 +271,7 @@ fn is_built_opcode(opcode: Option<u16>) -> bool
 {
     match opcode {
         None => true,
-        Some(opcode) => opcode == VIRTIO_ADMIN_CMD_RESOURCE_OBJ_CREATE
-            || !is_opcode_in(ALL_OPCODES, opcode),
+        Some(opcode) => opcode == VIRTIO_ADMIN_CMD_RESOURCE_OBJ_CREATE || !has_opcode(opcode),
     }
 }
 

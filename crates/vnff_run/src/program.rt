@@ -1,112 +1,19 @@
 //! The program's call: words in, files read, a text written, and a status.
 
 ghost use Rattle.std.specs.Prelude.{◌≡◌, ◌≤◌, ◌⊎◌, ◌↔◌, ℕ, None, IfSome, IsSomeAnd};
-ghost use Rattle.std.specs.Prelude.{map, take, length, string_bytes};
-ghost use Rattle.std.specs.Option.{option_copied};
+ghost use Rattle.std.specs.Prelude.{map, take, string_bytes};
 ghost use Rattle.vnff_base.specs.Counts.{Rose};
 ghost use Rattle.vnff_base.specs.Outputs.{told_after};
-ghost use Rattle.vnff_run.specs.Outcomes.{outcome_of, of_script, script_name};
-ghost use Rattle.vnff_run.specs.Replay.{lines_of, replay_text};
-ghost use Rattle.vnff_run.specs.Script.{built_script_of};
-ghost use Rattle.vnff_run.specs.Endings.{Ends, EndsFile};
+ghost use Rattle.vnff_run.specs.Endings.{FormEnds, out_call, shelf_call};
+ghost use Rattle.vnff_run.specs.Forms.{form_of, form_view};
+ghost use Rattle.vnff_run.specs.Outcomes.{outcome_in, outcome_of};
 
-use crate::device::Device;
-use crate::grammar::read_script;
-use crate::replay::put_items;
-use crate::script::{Item, Script, ScriptFault};
+use crate::ending::{FAULTY_WORDS, exit_status};
+use crate::form::{Form, form_of};
+use crate::replay::replay;
+use crate::stop::Stop;
 use std::alloc::Global;
-use vnff_base::{Out, ReadErr, Shelf, read_all};
-
-/// The longest file that is read, in bytes: 64 MiB.
-pub const FILE_LIMIT: u64 = 67_108_864;
-
-/// The exit statuses.
-const DONE: u8 = 0;
-
-const REFUSED: u8 = 1;
-
-const FAULTY_WORDS: u8 = 2;
-
-const READ_FAULT: u8 = 3;
-
-const WRITE_FAULT: u8 = 4;
-
-const NO_MEMORY: u8 = 5;
-
-/// Writes the line of a refusal.
-fn refuse<O: Out>(out: &mut O, line: &[u8]) -> u8
-    ensures { Ends (record { status = 1; text = line.now })
-        (record { old = O.told out.old; new = O.told out.new; before = O.faults out.old; now = O.faults out.new })
-        result }
-{
-    match out.put(line) {
-        Ok(()) => REFUSED,
-        Err(_) => WRITE_FAULT,
-    }
-}
-
-/// Does what the items ask for, and writes a line for each.
-fn run_items<O: Out>(device: &mut Device, items: &[Item], out: &mut O) -> u8
-    ensures { Ends (record { status = 0; text = lines_of device.old items.now })
-        (record { old = O.told out.old; new = O.told out.new; before = O.faults out.old; now = O.faults out.new })
-        result }
-{
-    match put_items(device, items, out) {
-        Ok(()) => DONE,
-        Err(_) => WRITE_FAULT,
-    }
-}
-
-/// Replays a script.
-fn replay<O: Out>(alloc: Global, script: Script, out: &mut O) -> u8
-    ensures { Ends (record { status = 0; text = replay_text script })
-        (record { old = O.told out.old; new = O.told out.new; before = O.faults out.old; now = O.faults out.new })
-        result }
-{
-    let Script { caps, start, items } = script;
-    match Device::new(alloc, caps, start) {
-        Ok(mut device) => run_items(&mut device, items.as_slice(), out),
-        Err(_) => NO_MEMORY,
-    }
-}
-
-/// Replays what may be a script, or refuses it.
-fn replay_text_of<O: Out>(alloc: Global, bytes: &[u8], out: &mut O) -> u8
-    requires { length bytes.now ≤ FILE_LIMIT }
-    ensures { Ends (of_script (built_script_of bytes.now))
-        (record { old = O.told out.old; new = O.told out.new; before = O.faults out.old; now = O.faults out.new })
-        result }
-{
-    match read_script(alloc, bytes) {
-        Ok(script) => replay(alloc, script, out),
-        Err(ScriptFault::Bad(_, _)) => refuse(out, b"refused script unbuilt\n"),
-        Err(ScriptFault::Memory) => NO_MEMORY,
-    }
-}
-
-/// Replays the script in a file.
-fn replay_file<S: Shelf, O: Out>(alloc: Global, name: &str, shelf: &mut S, out: &mut O) -> u8
-    ensures { EndsFile (S.files shelf.old) name.now (S.faults shelf.old) (S.faults shelf.new)
-        (record { old = O.told out.old; new = O.told out.new; before = O.faults out.old; now = O.faults out.new })
-        result }
-{
-    match read_all(alloc, shelf, name, FILE_LIMIT) {
-        Ok(bytes) => replay_text_of(alloc, bytes.as_slice(), out),
-        Err(ReadErr::ReadFault) => READ_FAULT,
-        Err(ReadErr::TooLong) => refuse(out, b"refused script too-long\n"),
-        Err(ReadErr::Memory) => NO_MEMORY,
-    }
-}
-
-/// The file that the words name, where they are `replay SCRIPT`.
-fn script_of(words: &[String]) -> Option<&str>
-    ensures { option_copied result ≡ script_name (map string_bytes words.now) }
-{
-    match words {
-        [form, name] if form.as_str() == "replay" => Some(name.as_str()),
-        _ => None,
-    }
-}
+use vnff_base::{Out, Shelf};
 
 /// Runs the program on its words, without its own name, and gives its exit status: 0 done, 1 an input was refused, 2 the
 /// words are no form, 3 a read failed, 4 a write failed, 5 memory ran out. The forms that are built: `replay SCRIPT`.
@@ -114,7 +21,7 @@ pub fn plain<S: Shelf, O: Out>(alloc: Global, words: &[String], shelf: &mut S, o
     ensures known { result ≤ 5 }
 
     // The words alone decide on 2.
-    ensures words { (result ≡ 2) ↔ (script_name (map string_bytes words.now) ≡ None) }
+    ensures words { (result ≡ 2) ↔ (form_of (map string_bytes words.now) ≡ None) }
 
     ensures words_nothing { result ≡ 2 → O.told out.new ≡ O.told out.old }
 
@@ -123,16 +30,10 @@ pub fn plain<S: Shelf, O: Out>(alloc: Global, words: &[String], shelf: &mut S, o
         let end = outcome_of (map string_bytes words.now) files in
         (result ≡ end.status) × (O.told out.new ≡ told_after (O.told out.old) end.text)) }
 
-    // What is to be refused is refused, unless a read or a write failed, or memory ran out.
-    ensures refused { IfSome (S.files shelf.old) (λ files.
-        let end = outcome_of (map string_bytes words.now) files in
-        end.status ≡ 1 → (result ≡ 1) ⊎ (result ≡ 5)
-        ⊎ Rose (S.faults shelf.old) (S.faults shelf.new) ⊎ Rose (O.faults out.old) (O.faults out.new)) }
-
-    // What is to be replayed is replayed, with the same exceptions.
+    // What is to be done is done, and what is to be refused is refused, unless a read or a write failed, or memory ran out.
     ensures complete { IfSome (S.files shelf.old) (λ files.
         let end = outcome_of (map string_bytes words.now) files in
-        end.status ≡ 0 → (result ≡ 0) ⊎ (result ≡ 5)
+        (result ≡ end.status) ⊎ (result ≡ 5)
         ⊎ Rose (S.faults shelf.old) (S.faults shelf.new) ⊎ Rose (O.faults out.old) (O.faults out.new)) }
 
     // 3 is a failure of the shelf, or a file that isn't there, and then nothing was written.
@@ -145,20 +46,40 @@ pub fn plain<S: Shelf, O: Out>(alloc: Global, words: &[String], shelf: &mut S, o
     // 4 is a failure of the output.
     ensures write { result ≡ 4 → Rose (O.faults out.old) (O.faults out.new) }
 
+    // 5 is no failure of either.
+    ensures memory { result ≡ 5
+        → (S.faults shelf.new ≡ S.faults shelf.old) × (O.faults out.new ≡ O.faults out.old) }
+
     // After 4 and 5 a front of the outcome's text was written.
     ensures front { 4 ≤ result → IfSome (S.files shelf.old) (λ files.
         let end = outcome_of (map string_bytes words.now) files in
         (n : ℕ) × (O.told out.new ≡ told_after (O.told out.old) (take n end.text))) }
 {
-    match script_of(words) {
-        Some(name) => replay_file(alloc, name, shelf, out),
+    match form_of(words) {
+        Some(form) => exit_status(run(alloc, form, shelf, out), out),
         None => FAULTY_WORDS,
+    }
+}
+
+/// Carries a form out.
+fn run<S: Shelf, O: Out>(
+    alloc: Global,
+    form: Form<'_>,
+    shelf: &mut S,
+    out: &mut O,
+) -> Result<(), Stop>
+    ensures { FormEnds (shelf_call S.files S.faults shelf.old shelf.new)
+        (out_call O.told O.faults out.old out.new) (outcome_in (form_view form.entry)) result }
+{
+    match form {
+        Form::Replay(script) => replay(alloc, script, shelf, out),
     }
 }
 
 #[cfg(test)]
 mod tests {
     use super::*;
+    use crate::ending::{DONE, WRITE_FAULT};
     use std::alloc::AllocError;
     use std::test::Fail;
     use vnff_base::{MemOut, MemShelf};

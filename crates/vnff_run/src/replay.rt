@@ -1,58 +1,83 @@
-//! A replay: the items of a script, in order, and a line for each.
+//! The form `replay SCRIPT`: the items of a script, in order, and a line for each.
 
 ghost use Rattle.std.specs.Prelude.{◌≡◌, ◌∷◌, []};
 ghost use Rattle.vnff_base.specs.Outputs.{Writes};
-ghost use Rattle.vnff_run.specs.Replay.{reply_line, frame_line, item_line, lines_of, state_behind};
+ghost use Rattle.vnff_run.specs.Endings.{FormEnds, RunsAs, out_call, shelf_call};
+ghost use Rattle.vnff_run.specs.Forms.{Replay};
+ghost use Rattle.vnff_run.specs.Outcomes.{done_with, outcome_in};
+ghost use Rattle.vnff_run.specs.Replay.{reply_line, frame_line, item_line, lines_of, replay_text, state_behind};
 ghost use Rattle.ff_headers.specs.Frames.{headers_of};
 ghost use Rattle.ff_headers.specs.Places.{action_of};
-ghost use Rattle.vnff_run.specs.Steps.{reply_of, next_state};
+ghost use Rattle.cap_table.specs.Steps.{reply_of, next_state};
 
-use crate::decision::Decision;
-use crate::device::Device;
-use crate::scan::action;
-use crate::script::{AdminLine, Item};
+use crate::file::script_in;
+use crate::script::{AdminLine, Item, Script};
+use crate::steering::Steering;
+use crate::stop::Stop;
 use crate::text::{put_frame_line, put_reply_line};
-use ff_headers::Headers;
-use vnff_base::{Failed, Out};
+use std::alloc::Global;
+use vnff_base::{Failed, Out, Shelf};
+
+/// Replays the script in a file.
+pub fn replay<S: Shelf, O: Out>(
+    alloc: Global,
+    name: &str,
+    shelf: &mut S,
+    out: &mut O,
+) -> Result<(), Stop>
+    ensures { FormEnds (shelf_call S.files S.faults shelf.old shelf.new)
+        (out_call O.told O.faults out.old out.new) (outcome_in (Replay name.now)) result }
+{
+    let script = script_in(alloc, name, shelf)?;
+    replay_script(alloc, script, out)
+}
+
+/// Replays a script, on a device of its own.
+fn replay_script<O: Out>(alloc: Global, script: Script, out: &mut O) -> Result<(), Stop>
+    ensures { RunsAs (out_call O.told O.faults out.old out.new) (done_with (replay_text script)) result }
+{
+    let Script { caps, start, items } = script;
+    let mut steering = Steering::new(alloc, caps, start)?;
+    Ok(put_items(&mut steering, items.as_slice(), out)?)
+}
 
 /// Carries a command out, and writes the line of its reply.
-fn put_command<O: Out>(device: &mut Device, line: &AdminLine, out: &mut O) -> Result<(), Failed>
+fn put_command<O: Out>(steering: &mut Steering, line: &AdminLine, out: &mut O) -> Result<(), Failed>
     ensures line { Writes (O.told out.old) (O.told out.new) (O.faults out.old) (O.faults out.new)
-        (reply_line (reply_of device.old line.now.bytes line.now.room)) result }
-    ensures state { device.new ≡ next_state device.old line.now.bytes line.now.room }
+        (reply_line (reply_of steering.old line.now.bytes line.now.room)) result }
+    ensures state { steering.new ≡ next_state steering.old line.now.bytes line.now.room }
 {
-    let Decision { reply, effect } = device.decide(line.bytes.as_slice(), u64::from(line.room));
-    device.commit(effect);
+    let reply = steering.admin(line.bytes.as_slice(), line.room);
     put_reply_line(out, reply.as_slice())
 }
 
 /// Writes the line of a frame.
-fn put_frame<O: Out>(device: &Device, frame: &[u8], out: &mut O) -> Result<(), Failed>
+fn put_frame<O: Out>(steering: &Steering, frame: &[u8], out: &mut O) -> Result<(), Failed>
     ensures { Writes (O.told out.old) (O.told out.new) (O.faults out.old) (O.faults out.new)
-        (frame_line (action_of device.now.objects (headers_of frame.now))) result }
+        (frame_line (action_of steering.now.objects (headers_of frame.now))) result }
 {
-    put_frame_line(out, action(device.objects(), &Headers::parse(frame)))
+    put_frame_line(out, steering.frame(frame))
 }
 
 /// Does what an item asks for, and writes its line.
-fn put_item<O: Out>(device: &mut Device, item: &Item, out: &mut O) -> Result<(), Failed>
+fn put_item<O: Out>(steering: &mut Steering, item: &Item, out: &mut O) -> Result<(), Failed>
     ensures line { Writes (O.told out.old) (O.told out.new) (O.faults out.old) (O.faults out.new)
-        (item_line device.old item.now) result }
-    ensures state { device.new ≡ state_behind device.old (item.now ∷ []) }
+        (item_line steering.old item.now) result }
+    ensures state { steering.new ≡ state_behind steering.old (item.now ∷ []) }
 {
     match item {
-        Item::Admin(line) => put_command(device, line, out),
-        Item::Frame(frame) => put_frame(device, frame.as_slice(), out),
+        Item::Admin(line) => put_command(steering, line, out),
+        Item::Frame(frame) => put_frame(steering, frame.as_slice(), out),
     }
 }
 
 /// Does what the items ask for, in order, and writes a line for each.
-pub fn put_items<O: Out>(device: &mut Device, items: &[Item], out: &mut O) -> Result<(), Failed>
+fn put_items<O: Out>(steering: &mut Steering, items: &[Item], out: &mut O) -> Result<(), Failed>
     ensures { Writes (O.told out.old) (O.told out.new) (O.faults out.old) (O.faults out.new)
-        (lines_of device.old items.now) result }
+        (lines_of steering.old items.now) result }
 {
     for item in items {
-        put_item(device, item, out)?;
+        put_item(steering, item, out)?;
     }
     Ok(())
 }

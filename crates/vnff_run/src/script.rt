@@ -1,8 +1,8 @@
 ghost use Rattle.std.specs.Prelude.{◌≡◌};
 ghost use Rattle.vnff_run.specs.declared.script.ScriptFault.TheVariants.{Memory};
 
-use crate::capabilities::DeviceCaps;
-use crate::start::Start;
+use admin_dev::Start;
+use cap_table::DeviceCaps;
 use std::alloc::AllocError;
 use vnff_base::List;
 

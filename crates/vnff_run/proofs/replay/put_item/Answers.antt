@@ -1,5 +1,5 @@
 use Rattle.std.proofs.Common.{refl}
-use Rattle.vnff_run.specs.Steps.{state_after}
+use Rattle.cap_table.specs.Steps.{state_after}
 use Rattle.vnff_run.specs.Replay.{item_line}
 use Rattle.vnff_run.proofs.replay.put_item.Goals as goal
 

@@ -2,7 +2,7 @@ use Rattle.std.proofs.Common.{◌<◌, length, arith, refl}
 use Rattle.std.specs.List.{range_with_len}
 use Rattle.std.proofs.lemmas.List.FromFn.{length-range_with_len}
 use Rattle.vnff_base.proofs.Writing.{wrote_nothing, wrote_item, wrote_items, stopped_item, writes_stopped}
-use Rattle.vnff_run.specs.Steps.{state_after}
+use Rattle.cap_table.specs.Steps.{state_after}
 use Rattle.vnff_run.specs.Replay.{line_at, lines_of}
 use Rattle.vnff_run.proofs.ReplayLemmas.{line_is, state_is, place_within, place_is}
 use Rattle.vnff_run.proofs.replay.put_items.Goals as goal
@@ -16,10 +16,10 @@ loop-item-preserved g c =
     let i = c.loop-item.item-index in
     let items = c.args.items.now in
     let within : i < length items = omega arith in
-    let is = line_is c.args.device.now c.loop-item.device items i c.item-item.result c.loop-item.invariant.state within c.item-item.is in
+    let is = line_is c.args.steering.now c.loop-item.steering items i c.item-item.result c.loop-item.invariant.state within c.item-item.is in
     record {
       state = state_is _ _ _ items i _ c.loop-item.invariant.state within c.item-item.is c.in_ok-put_item.ensures.state;
-      wrote = wrote_item (line_at c.args.device.now items) (range_with_len 0 (length items)) i i i (place_within _ i within) (place_is _ i within) c.loop-item.invariant.wrote (rw (← is) c.in_ok-put_item.ensures.line);
+      wrote = wrote_item (line_at c.args.steering.now items) (range_with_len 0 (length items)) i i i (place_within _ i within) (place_is _ i within) c.loop-item.invariant.wrote (rw (← is) c.in_ok-put_item.ensures.line);
     }
 
 pub returns-in_err-put_item : goal.returns-in_err-put_item
@@ -28,12 +28,12 @@ returns-in_err-put_item g c =
     let i = c.loop-item.item-index in
     let items = c.args.items.now in
     let within : i < length items = omega arith in
-    let is = line_is c.args.device.now c.loop-item.device items i c.item-item.result c.loop-item.invariant.state within c.item-item.is in
+    let is = line_is c.args.steering.now c.loop-item.steering items i c.item-item.result c.loop-item.invariant.state within c.item-item.is in
     writes_stopped _ _ c.from_residual.ensures.1
-    (stopped_item (line_at c.args.device.now items) (range_with_len 0 (length items)) i i i (place_within _ i within) (place_is _ i within) c.loop-item.invariant.wrote (rw (← is) c.in_err-put_item.ensures.line))
+    (stopped_item (line_at c.args.steering.now items) (range_with_len 0 (length items)) i i i (place_within _ i within) (place_is _ i within) c.loop-item.invariant.wrote (rw (← is) c.in_err-put_item.ensures.line))
 
 pub returns : goal.returns
 unfolding lines_of
 returns g c =
     let items = c.args.items.now in
-    wrote_items (line_at c.args.device.now items) (range_with_len 0 (length items)) c.loop-item.item-index (rw length-range_with_len (omega arith)) c.loop-item.invariant.wrote
+    wrote_items (line_at c.args.steering.now items) (range_with_len 0 (length items)) c.loop-item.item-index (rw length-range_with_len (omega arith)) c.loop-item.invariant.wrote

@@ -1,0 +1,15 @@
+use Rattle.std.proofs.Common.{refl}
+use Rattle.std.proofs.lemmas.Result.{err_from_is_err_and}
+use Rattle.vnff_run.specs.Outcomes.{outcome_in}
+use Rattle.vnff_run.proofs.EndingLemmas.{form_stops, form_runs}
+use Rattle.vnff_run.proofs.replay.replay.Goals as goal
+
+pub returns-in_err-script : goal.returns-in_err-script
+unfolding outcome_in
+returns-in_err-script g c =
+    let p = err_from_is_err_and c.from_residual.result c.from_residual.ensures.1 in
+    rw (p.1, p.2) (form_stops _ _ _ _ _ c.in_err-script.ensures.read (refl, refl))
+
+pub returns : goal.returns
+unfolding outcome_in
+returns g c = form_runs _ _ _ _ _ _ c.in_ok-script.ensures.read c.replay_script.ensures

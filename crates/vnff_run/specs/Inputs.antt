@@ -1,0 +1,38 @@
+-- What the files give that words name, or what is at fault with them. This project's own.
+use Rattle.std.specs.Prelude.{ℕ, List, length, Option, Some, None, Result, Ok, Err, nat_lt, if◌then◌else◌}
+use Rattle.vnff_base.specs.Shelves.{Files}
+use Rattle.vnff_run.specs.Results.{◌>>=◌}
+use Rattle.vnff_run.specs.Script.{built_script_of}
+use Rattle.vnff_run.specs.declared.script.Script.{Script}
+use Rattle.vnff_run.specs.declared.script.Reason.{Reason}
+use Rattle.vnff_run.specs.declared.stop.FileKind.{FileKind}
+use Rattle.vnff_run.specs.declared.stop.FileKind.TheVariants as kinds
+use Rattle.vnff_run.specs.declared.stop.RefusedInput.{RefusedInput}
+use Rattle.vnff_run.specs.declared.stop.RefusedInput.TheVariants.{TooLong, BadScript}
+
+-- the longest file that is read, in bytes: 64 MiB
+abbrev pub file_limit : ℕ
+file_limit = 67108864
+
+-- What is at fault with an input, where no read fails: a file isn't there, or it is refused.
+pub data InputFault : Type 0 where
+  Missing : InputFault
+  Refused : RefusedInput → InputFault
+
+-- a file's bytes, where it is there and not too long
+abbrev pub within_limit : FileKind → Option (List ℕ) → Result (List ℕ) InputFault
+within_limit kind None = Err Missing
+within_limit kind (Some bytes) = if nat_lt file_limit (length bytes) then Err (Refused (TooLong kind)) else Ok bytes
+
+-- the bytes of the file of that name, which is to be one of this kind
+abbrev pub bytes_in : FileKind → List ℕ → Files → Result (List ℕ) InputFault
+bytes_in kind name files = within_limit kind (files name)
+
+-- a script, or the refusal of what isn't one
+abbrev pub script_or_refusal : Result Script (ℕ × Reason) → Result Script InputFault
+script_or_refusal (Ok script) = Ok script
+script_or_refusal (Err fault) = Err (Refused (BadScript fault.0 fault.1))
+
+-- the script in the file of that name
+unfoldable pub script_in : List ℕ → Files → Result Script InputFault
+script_in name files = bytes_in kinds.Script name files >>= λ bytes. script_or_refusal (built_script_of bytes)

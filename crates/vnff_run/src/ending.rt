@@ -1,0 +1,98 @@
+//! Exit statuses, and the lines of refusals: what the end of a form is turned into.
+
+ghost use Rattle.std.specs.Prelude.{◌≡◌};
+ghost use Rattle.vnff_base.specs.Outputs.{Writes};
+ghost use Rattle.vnff_run.specs.Endings.{IsStatusOf, WritesRefusal, out_call};
+ghost use Rattle.vnff_run.specs.Outcomes.{kind_word, reason_word, refusal_line, refusal_words};
+
+use crate::script::Reason;
+use crate::stop::{FileKind, RefusedInput, Stop};
+use vnff_base::{Failed, Out};
+
+/// The exit status where everything was done.
+pub const DONE: u8 = 0;
+
+/// The exit status where an input was refused.
+pub const REFUSED: u8 = 1;
+
+/// The exit status where the words are no form.
+pub const FAULTY_WORDS: u8 = 2;
+
+/// The exit status where a read failed.
+pub const READ_FAULT: u8 = 3;
+
+/// The exit status where a write failed.
+pub const WRITE_FAULT: u8 = 4;
+
+/// The exit status where memory ran out.
+pub const NO_MEMORY: u8 = 5;
+
+/// Writes the line of a refusal, where there is one, and gives the exit status.
+pub fn exit_status<O: Out>(ended: Result<(), Stop>, out: &mut O) -> u8
+    ensures { IsStatusOf (out_call O.told O.faults out.old out.new) ended result }
+{
+    match ended {
+        Ok(()) => DONE,
+        Err(Stop::ReadFault) => READ_FAULT,
+        Err(Stop::Refused(input)) => refuse(input, out),
+        Err(Stop::WriteFault) => WRITE_FAULT,
+        Err(Stop::Memory) => NO_MEMORY,
+    }
+}
+
+/// Writes the line of a refusal, and gives the exit status.
+fn refuse<O: Out>(input: RefusedInput, out: &mut O) -> u8
+    ensures { WritesRefusal (out_call O.told O.faults out.old out.new) input result }
+{
+    match put_refusal(out, input) {
+        Ok(()) => REFUSED,
+        Err(_) => WRITE_FAULT,
+    }
+}
+
+/// Writes the line of a refusal.
+#[tactic(auto, unfolding(crate::specs::Outcomes::refusal_line))]
+fn put_refusal<O: Out>(out: &mut O, input: RefusedInput) -> Result<(), Failed>
+    ensures { Writes (O.told out.old) (O.told out.new) (O.faults out.old) (O.faults out.new)
+        (refusal_line input) result }
+{
+    out.put(b"refused ")?;
+    put_refusal_words(out, input)?;
+    out.put(b"\n")
+}
+
+/// Writes what is refused, and why.
+#[tactic(auto, unfolding(crate::specs::Outcomes::refusal_words))]
+fn put_refusal_words<O: Out>(out: &mut O, input: RefusedInput) -> Result<(), Failed>
+    ensures { Writes (O.told out.old) (O.told out.new) (O.faults out.old) (O.faults out.new)
+        (refusal_words input) result }
+{
+    match input {
+        RefusedInput::TooLong(kind) => {
+            out.put(kind_word(kind))?;
+            out.put(b" too-long")
+        }
+        RefusedInput::BadScript(_, reason) => {
+            out.put(b"script ")?;
+            out.put(reason_word(reason))
+        }
+    }
+}
+
+/// What a file was to be, in words.
+fn kind_word(kind: FileKind) -> &'static [u8]
+    ensures { result.now ≡ kind_word kind }
+{
+    match kind {
+        FileKind::Script => b"script",
+    }
+}
+
+/// Why a script is refused, in words.
+fn reason_word(reason: Reason) -> &'static [u8]
+    ensures { result.now ≡ reason_word reason }
+{
+    match reason {
+        Reason::Unbuilt => b"unbuilt",
+    }
+}

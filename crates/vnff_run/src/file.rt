@@ -1,0 +1,42 @@
+//! Files, read from a shelf to their ends, and what they hold.
+
+ghost use Rattle.std.specs.Prelude.{◌≡◌, ◌≤◌, length, IfOk};
+ghost use Rattle.vnff_run.specs.Endings.{ReadsInput, shelf_call};
+ghost use Rattle.vnff_run.specs.Inputs.{bytes_in, file_limit, script_in};
+
+use crate::grammar::read_script;
+use crate::script::Script;
+use crate::stop::{FileKind, RefusedInput, Stop};
+use std::alloc::Global;
+use vnff_base::{List, ReadErr, Shelf, read_all};
+
+/// The longest file that is read, in bytes: 64 MiB.
+const FILE_LIMIT: u64 = 67_108_864;
+
+/// The bytes of a file that is to be one of this kind.
+fn bytes_in<S: Shelf>(
+    alloc: Global,
+    kind: FileKind,
+    name: &str,
+    shelf: &mut S,
+) -> Result<List<u8>, Stop>
+    ensures read { ReadsInput (shelf_call S.files S.faults shelf.old shelf.new) (bytes_in kind name.now) result }
+    ensures within { IfOk result (λ bytes. length bytes ≤ file_limit) }
+    ensures same_files { S.files shelf.new ≡ S.files shelf.old }
+{
+    match read_all(alloc, shelf, name, FILE_LIMIT) {
+        Ok(bytes) => Ok(List::from(bytes)),
+        Err(ReadErr::ReadFault) => Err(Stop::ReadFault),
+        Err(ReadErr::TooLong) => Err(Stop::Refused(RefusedInput::TooLong(kind))),
+        Err(ReadErr::Memory) => Err(Stop::Memory),
+    }
+}
+
+/// The script in a file.
+pub fn script_in<S: Shelf>(alloc: Global, name: &str, shelf: &mut S) -> Result<Script, Stop>
+    ensures read { ReadsInput (shelf_call S.files S.faults shelf.old shelf.new) (script_in name.now) result }
+    ensures same_files { S.files shelf.new ≡ S.files shelf.old }
+{
+    let bytes = bytes_in(alloc, FileKind::Script, name, shelf)?;
+    Ok(read_script(alloc, bytes.as_slice())?)
+}

@@ -1,0 +1,65 @@
+//! Why a form of words ends before all that it was to write is written.
+
+ghost use Rattle.std.specs.Prelude.{◌≡◌};
+ghost use Rattle.vnff_run.specs.declared.stop.Stop.TheVariants as stops;
+ghost use Rattle.vnff_run.specs.Endings.{script_stop};
+
+use crate::script::{Reason, ScriptFault};
+use std::alloc::AllocError;
+use vnff_base::Failed;
+
+/// What a file is to be.
+#[derive(Clone, Copy, Debug, PartialEq, Eq)]
+pub enum FileKind {
+    /// A script.
+    Script,
+}
+
+/// An input that is refused, and why.
+#[derive(Clone, Copy, Debug, PartialEq, Eq)]
+pub enum RefusedInput {
+    /// A file is longer than any that is read.
+    TooLong(FileKind),
+    /// A file is no script that the program can run: the line, or 0 for the whole text, and the reason.
+    BadScript(u32, Reason),
+}
+
+/// Why a form ended early.
+#[derive(Clone, Copy, Debug, PartialEq, Eq)]
+pub enum Stop {
+    /// A read failed, or the file isn't there.
+    ReadFault,
+    /// An input is refused. The line that says so is still to be written.
+    Refused(RefusedInput),
+    /// A write failed.
+    WriteFault,
+    /// Memory ran out.
+    Memory,
+}
+
+impl From<Failed> for Stop {
+    ghost from_gives = { λ _ stop. stop ≡ stops.WriteFault };
+
+    fn from(_: Failed) -> Stop {
+        Stop::WriteFault
+    }
+}
+
+impl From<AllocError> for Stop {
+    ghost from_gives = { λ _ stop. stop ≡ stops.Memory };
+
+    fn from(_: AllocError) -> Stop {
+        Stop::Memory
+    }
+}
+
+impl From<ScriptFault> for Stop {
+    ghost from_gives = { λ fault stop. stop ≡ script_stop fault };
+
+    fn from(fault: ScriptFault) -> Stop {
+        match fault {
+            ScriptFault::Bad(line, reason) => Stop::Refused(RefusedInput::BadScript(line, reason)),
+            ScriptFault::Memory => Stop::Memory,
+        }
+    }
+}
