@@ -1,21 +1,18 @@
 -- The answer to bytes by what they are read as.
-use Rattle.std.proofs.Common.{◌≡◌, ◌≢◌, ℕ, Bool, true, false, not, ◌&&◌, List, [], ◌++◌, Some, Ok, Err, refl, sym, ap, subst}
-use Rattle.std.proofs.lemmas.Bool.{not-true}
+use Rattle.std.proofs.Common.{◌≡◌, ◌≢◌, ℕ, Bool, true, false, not, ◌&&◌, List, [], ◌++◌, Some, None, Ok, Err, sym, ap, subst, ◌∙◌}
+use Rattle.std.proofs.lemmas.Bool.{not-true, and_parts}
 use Rattle.admin_wire.specs.declared.command.Command.{Command}
 use Rattle.admin_wire.specs.declared.error.WireErr.{WireErr}
-use Rattle.admin_wire.specs.declared.error.WireErr.TheVariants as wire_err
-use Rattle.admin_wire.specs.Wire.{command_of, opcode_of}
+use Rattle.admin_wire.specs.Wire.{command_of}
+use Rattle.admin_wire.specs.Headers.{opcode_of}
 use Rattle.cap_table.specs.Rows.{first_verdict, invalid_opcode, no_memory}
 use Rattle.cap_table.specs.States.{DeviceState}
-use Rattle.cap_table.specs.Verdicts.{answer_of, accepted, layout_rows, command_rows, read_rows, refused, refused_or, obeyed, effect_with, change_of, fault_verdict, is_header_cut, is_opcode_unused}
+use Rattle.cap_table.specs.Verdicts.{answer_of, accepted, layout_rows, command_rows, read_rows, refused, refused_or, obeyed, effect_with, change_of, is_header_cut, is_opcode_unused}
 use Rattle.cap_table.specs.Steps.{OnlyObeyedChanges, status_of, reply_of, effect_of}
 use Rattle.cap_table.specs.declared.answer.Effect.{Effect}
+use Rattle.cap_table.specs.declared.verdict.Verdict.{Verdict}
 use Rattle.cap_table.proofs.EveryAnswer.{never_no_memory, only_obeyed}
-use Rattle.cap_table.proofs.RowLemmas.{header_verdict, opcode_verdict, fault_row, command_row}
-
-and_parts : (a b : Bool) → (a && b) ≡ true → (a ≡ true) × (b ≡ true)
-and_parts true b h = (refl, h)
-and_parts false b h = absurd cc
+use Rattle.cap_table.proofs.RowLemmas.{opcode_verdict, fault_row, command_row}
 
 module _ (state : DeviceState) (bytes : List ℕ) where
   -- the opcode of a whole header isn't in use
@@ -25,17 +22,11 @@ module _ (state : DeviceState) (bytes : List ℕ) where
       let parts = and_parts _ _ unused in
       ap (λ o. refused_or o (accepted (command_of bytes))) (opcode_verdict state.in_use (opcode_of bytes) (read_rows state (command_of bytes)) (command_of bytes) (not-true _ parts.0) parts.1)
 
-  fault_verdict_is : (fault : WireErr) → (not (is_header_cut (Err fault)) && is_opcode_unused state.in_use (opcode_of bytes)) ≡ false → first_verdict (layout_rows state.in_use (opcode_of bytes) (Err fault) ++ []) ≡ Some (fault_verdict fault)
-  fault_verdict_is wire_err.ShortHeader used = header_verdict state.in_use (opcode_of bytes) []
-  fault_verdict_is (wire_err.Opcode n) used = fault_row state.in_use (opcode_of bytes) [] (wire_err.Opcode n) used
-  fault_verdict_is (wire_err.Group n) used = fault_row state.in_use (opcode_of bytes) [] (wire_err.Group n) used
-  fault_verdict_is (wire_err.Member n) used = fault_row state.in_use (opcode_of bytes) [] (wire_err.Member n) used
-  fault_verdict_is wire_err.ShortData used = fault_row state.in_use (opcode_of bytes) [] wire_err.ShortData used
-
   -- the bytes lay out no command
-  pub fault_answer : (fault : WireErr) → command_of bytes ≡ Err fault → (not (is_header_cut (Err fault)) && is_opcode_unused state.in_use (opcode_of bytes)) ≡ false → answer_of state bytes ≡ refused (fault_verdict fault)
+  pub fault_answer : (fault : WireErr) (verdict : Verdict) → command_of bytes ≡ Err fault → first_verdict (layout_rows 0 None (Err fault)) ≡ Some verdict → (not (is_header_cut (Err fault)) && is_opcode_unused state.in_use (opcode_of bytes)) ≡ false → answer_of state bytes ≡ refused verdict
   unfolding answer_of
-  fault_answer fault is used = rw is (ap (λ o. refused_or o (accepted (Err fault))) (fault_verdict_is fault used))
+  fault_answer fault verdict is row used =
+      rw is (ap (λ o. refused_or o (accepted (Err fault))) (fault_row state.in_use (opcode_of bytes) [] fault used ∙ row))
 
   -- the bytes lay out a command
   pub command_answer : (command : Command) → command_of bytes ≡ Ok command → is_opcode_unused state.in_use (opcode_of bytes) ≡ false → answer_of state bytes ≡ refused_or (first_verdict (command_rows state.caps state.driver state.objects command)) (obeyed (effect_with (change_of command)))

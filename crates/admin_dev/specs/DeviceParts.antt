@@ -5,9 +5,9 @@ use Rattle.cap_table.specs.States.{DeviceState, IsValid}
 use Rattle.ff_store.specs.LimitedObjects.{LimitedObjects}
 
 abbrev pub state_of : CapsParts → ℕ → DriverParts → LimitedObjects → DeviceState
-state_of caps in_use driver held = record { caps = caps; in_use = in_use; driver = driver; objects = held.objects }
+state_of caps in_use driver kept = record { caps = caps; in_use = in_use; driver = driver; objects = kept.objects }
 
 -- there is room for objects within the device's limits, and the state is valid
-pub record AreParts (caps : CapsParts) (in_use : ℕ) (driver : DriverParts) (held : LimitedObjects) : Type 0 where
-  pub limits : held.limits ≡ caps.limits
-  pub valid : IsValid (state_of caps in_use driver held)
+pub record AreParts (caps : CapsParts) (in_use : ℕ) (driver : DriverParts) (kept : LimitedObjects) : Type 0 where
+  pub limits : kept.limits ≡ caps.limits
+  pub valid : IsValid (state_of caps in_use driver kept)

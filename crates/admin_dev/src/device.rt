@@ -62,8 +62,8 @@ impl Device {
         })
     }
 
-    /// The reply to a command in this much room, in bytes, and the effect that is to be committed. The reply has no bytes
-    /// where the room is below 8.
+    /// The reply to a command in this much room, in bytes, and the effect that is to be committed. The reply has no
+    /// bytes where the room is below 8.
     #[tactic(auto, unfolding(cap_table::specs::Verdicts::verdict_of))]
     pub fn decide(&self, bytes: &[u8], room: u64) -> Decision
         ensures reply { result.reply.items ≡ reply_of self.now bytes.now room }
@@ -134,9 +134,10 @@ impl Device {
     }
 }
 
-/// The reply to a command whose change found no memory, cut to the room: status 12 and qualifier 6. No decision gives it.
+/// The reply to a command whose change found no memory, cut to the room: status 12 and qualifier 6. No decision gives
+/// it.
 pub fn no_memory(room: u64) -> ReplyBytes
-    ensures { result.items ≡ reply_bytes (bare_reply no_memory) room }
+    ensures { result.items ≡ reply_bytes (bare_reply no_memory.status no_memory.qualifier) room }
 {
     put_reply(&Answer::refused(Verdict::NO_MEMORY).reply, room)
 }

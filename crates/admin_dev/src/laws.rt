@@ -24,14 +24,18 @@ pub fn accepted_changes_are_sound()
         → effect_of state bytes room ≡ effects.Change change → is_sound state.caps.limits state.objects change ≡ true }
 {}
 
-/// A command that is answered with another status than 0, or with no bytes, leaves the state as it was. No command is answered
-/// with the status for want of memory.
-#[tactic(auto, using(cap_table::proofs::EveryAnswer::refused_stays, cap_table::proofs::EveryAnswer::silent_stays, cap_table::proofs::EveryAnswer::never_no_memory))]
+/// A command that is answered with another status than 0, or with no bytes, leaves the state as it was.
+#[tactic(auto, using(cap_table::proofs::EveryAnswer::refused_stays, cap_table::proofs::EveryAnswer::silent_stays))]
 pub fn refused_commands_change_nothing()
     ensures refused { (state : DeviceState) (bytes : List ℕ) (room : ℕ) → status_of (reply_of state bytes room) ≢ 0
         → next_state state bytes room ≡ state }
     ensures silent { (state : DeviceState) (bytes : List ℕ) (room : ℕ) → reply_of state bytes room ≡ []
         → next_state state bytes room ≡ state }
-    ensures never_no_memory { (state : DeviceState) (bytes : List ℕ) (room : ℕ)
+{}
+
+/// No command is answered with the status for want of memory.
+#[tactic(auto, using(cap_table::proofs::EveryAnswer::never_no_memory))]
+pub fn no_reply_is_want_of_memory()
+    ensures { (state : DeviceState) (bytes : List ℕ) (room : ℕ)
         → status_of (reply_of state bytes room) ≢ no_memory.status }
 {}

@@ -1,15 +1,17 @@
 //! The object machine of a network device: administration commands in, replies and changes of its flow filters out.
 //!
-//! The commands are the Virtio 1.4 draft's (group administration commands, device capabilities, resource objects); which of
-//! them the device has, and its statuses, qualifiers and order of refusals, are this project's own.
+//! The commands are the Virtio 1.4 draft's (group administration commands, device capabilities, resource objects);
+//! which of them the device has, and its statuses, qualifiers and order of refusals, are this project's own.
 //!
-//! It promises that [`Device::decide`] and [`Device::commit`] are one step of the machine that cap_table defines: the reply is the
-//! verdict's, cut to its room, and the state is the one that the verdict leaves. Every device is valid at every moment, whatever
-//! capabilities it was made with. The status is never the one for want of memory, and a command that isn't obeyed changes
-//! nothing. All memory is taken by [`Device::new`]. What holds of whole runs is said by the laws: [`runs_are_valid`],
-//! [`accepted_changes_are_sound`], [`refused_commands_change_nothing`].
+//! It promises that [`Device::decide`] and [`Device::commit`] are one step of the machine that cap_table defines: the
+//! reply is the verdict's, cut to its room, and the state is the one that the verdict leaves. Every device is valid
+//! at every moment, whatever capabilities it was made with. The status is never the one for want of memory, and a
+//! command that isn't obeyed changes nothing. All memory is taken by [`Device::new`]. What holds of whole runs is
+//! said by the laws: [`runs_are_valid`], [`accepted_changes_are_sound`], [`refused_commands_change_nothing`],
+//! [`no_reply_is_want_of_memory`].
 //!
-//! The definitions are cap_table's `States`, `Verdicts` and `Steps`; `DeviceParts` says how a device's parts make its state.
+//! The definitions are cap_table's `States`, `Verdicts` and `Steps`; `DeviceParts` says how a device's parts make its
+//! state.
 #![tactic(auto)]
 
 mod device;
@@ -17,4 +19,7 @@ mod laws;
 
 pub use cap_table::{Effect, Start};
 pub use device::{Decision, Device, no_memory};
-pub use laws::{accepted_changes_are_sound, refused_commands_change_nothing, runs_are_valid};
+pub use laws::{
+    accepted_changes_are_sound, no_reply_is_want_of_memory, refused_commands_change_nothing,
+    runs_are_valid,
+};

@@ -2,9 +2,9 @@
 use Rattle.std.proofs.Common.{◌≡◌, ℕ, ◌+◌, ◌%◌, ◌^◌, ◌<◌, ap, subst, refl, arith, List, [], ◌∷◌, ◌++◌, length, get_or, take, drop, length-append}
 use Rattle.std.specs.Int.{w8, w16, w32, w64, to_le_bytes}
 use Rattle.std.proofs.lemmas.List.{take_at, drop_at, drop-drop, get_or-drop}
-use Rattle.std.proofs.lemmas.Nat.{from_le_bytes-to_le_bytes_2, from_le_bytes-to_le_bytes_4, from_le_bytes-to_le_bytes_8}
+use Rattle.byte_numbers.proofs.NumberLaws.{le16_at-bytes, le32_at-bytes, le64_at-bytes}
 use Rattle.admin_wire.specs.Fields.{Field, number, reserved, raw, Spells}
-use Rattle.admin_wire.specs.Numbers.{le16_at, le32_at, le64_at}
+use Rattle.byte_numbers.specs.Numbers.{le16_at, le32_at, le64_at}
 
 -- at the place of the bytes the rest begins
 pub record At (bytes : List ℕ) (place : ℕ) (rest : List ℕ) : Type 0 where
@@ -26,21 +26,15 @@ At-more bytes place size next front rest after here split sized moved =
 
 pub le16-at : (bytes rest after : List ℕ) (place n : ℕ) → At bytes place rest → n < 2 ^ 16 → rest ≡ to_le_bytes w16 n ++ after
     → le16_at bytes place ≡ n
-unfolding le16_at
-le16-at bytes rest after place n here fits split =
-    rw (here.left, split) (from_le_bytes-to_le_bytes_2 n fits)
+le16-at bytes rest after place n here fits split = le16_at-bytes bytes place n (rw (here.left, split) refl) fits
 
 pub le32-at : (bytes rest after : List ℕ) (place n : ℕ) → At bytes place rest → n < 2 ^ 32 → rest ≡ to_le_bytes w32 n ++ after
     → le32_at bytes place ≡ n
-unfolding le32_at
-le32-at bytes rest after place n here fits split =
-    rw (here.left, split) (from_le_bytes-to_le_bytes_4 n fits)
+le32-at bytes rest after place n here fits split = le32_at-bytes bytes place n (rw (here.left, split) refl) fits
 
 pub le64-at : (bytes rest after : List ℕ) (place n : ℕ) → At bytes place rest → n < 2 ^ 64 → rest ≡ to_le_bytes w64 n ++ after
     → le64_at bytes place ≡ n
-unfolding le64_at
-le64-at bytes rest after place n here fits split =
-    rw (here.left, split) (from_le_bytes-to_le_bytes_8 n fits)
+le64-at bytes rest after place n here fits split = le64_at-bytes bytes place n (rw (here.left, split) refl) fits
 
 pub byte-at : (bytes rest after : List ℕ) (place n : ℕ) → At bytes place rest → n < 2 ^ 8 → rest ≡ to_le_bytes w8 n ++ after
     → get_or bytes place 0 ≡ n

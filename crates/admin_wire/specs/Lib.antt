@@ -1,8 +1,12 @@
-pub mod Numbers
+pub mod Codes
+pub mod Opcodes
 pub mod Faults
+pub mod Headers
 pub mod Lists
+pub mod Capabilities
 pub mod Objects
 pub mod Wire
+pub mod Needs
 pub mod Fields
-pub mod Creates
+pub mod Layouts
 pub mod Replies

@@ -6,16 +6,16 @@ use Rattle.std.specs.List.{list_all, filter_map}
 use Rattle.std.specs.Option.{option_map_or}
 use Rattle.ff_headers.specs.Kinds.{kind_of_code, kind_size}
 use Rattle.ff_headers.specs.SelectorParts.{SelectorParts, selector_with}
-use Rattle.admin_wire.specs.declared.codes.TheConstants.{LIST_HEAD_LEN, ENTRY_HEAD_LEN}
 use Rattle.admin_wire.specs.declared.command.RawList.{RawList}
 use Rattle.admin_wire.specs.declared.command.RawList.TheVariants.{Good, Odd}
 use Rattle.admin_wire.specs.declared.error.WireErr.{WireErr}
 use Rattle.admin_wire.specs.declared.error.WireErr.TheVariants.{ShortData}
+use Rattle.admin_wire.specs.Codes.{list_head_size, entry_head_size, most_selectors}
 use Rattle.admin_wire.specs.Faults.{◌>>=◌}
 
 -- how many bytes the entry at the front takes, by its own length byte
 abbrev pub entry_len : List ℕ → ℕ
-entry_len bytes = ENTRY_HEAD_LEN + slice_index bytes 4
+entry_len bytes = entry_head_size + slice_index bytes 4
 
 -- how many bytes the entry at the front takes, if they are all there
 unfoldable pub whole_entry : List ℕ → Result ℕ WireErr
@@ -33,21 +33,23 @@ entries_of (suc count) bytes = do
 unfoldable pub selector_of : List ℕ → Option SelectorParts
 selector_of entry = option_and_then
     (λ kind. if slice_index entry 4 == kind_size kind
-    then Some (selector_with kind (slice_index entry 1) (drop ENTRY_HEAD_LEN entry))
+    then Some (selector_with kind (slice_index entry 1) (drop entry_head_size entry))
     else None)
     (kind_of_code (slice_index entry 0))
 
 -- at most five entries, each of them a selector, make a list that is good
 unfoldable pub raw_list : List (List ℕ) → RawList
 raw_list entries =
-    if nat_le (length entries) 5 && list_all (λ entry. is_some (selector_of entry)) entries
+    if nat_le (length entries) most_selectors && list_all (λ entry. is_some (selector_of entry)) entries
     then Good (record { items = filter_map selector_of entries })
     else Odd
 
 -- the list with one more entry at its end
 unfoldable pub with_entry : RawList → List ℕ → RawList
 with_entry (Good list) entry = option_map_or
-    (λ selector. if nat_lt (length list.items) 5 then Good (record { items = list.items ++ selector ∷ [] }) else Odd)
+    (λ selector. if nat_lt (length list.items) most_selectors
+    then Good (record { items = list.items ++ selector ∷ [] })
+    else Odd)
     (selector_of entry)
     Odd
 with_entry Odd entry = Odd
@@ -55,6 +57,6 @@ with_entry Odd entry = Odd
 -- the list that begins the bytes
 unfoldable pub list_of : List ℕ → Result RawList WireErr
 list_of bytes =
-    if nat_lt (length bytes) LIST_HEAD_LEN then Err ShortData else do
-      entries ← entries_of (slice_index bytes 0) (drop LIST_HEAD_LEN bytes)
+    if nat_lt (length bytes) list_head_size then Err ShortData else do
+      entries ← entries_of (slice_index bytes 0) (drop list_head_size bytes)
       Ok (raw_list entries)

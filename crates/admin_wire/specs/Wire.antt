@@ -1,45 +1,59 @@
 -- The layout of a command as a whole (Virtio 1.4 draft, "Group administration commands" and "Device resource
 -- objects"): a header of 24 bytes, and the data that the opcode asks for. Reserved bytes are not looked at, and
 -- neither are bytes past the data.
-use Rattle.std.specs.Prelude.{◌≡◌, ℕ, List, length, drop, Result, Ok, Err, Option, Some, None, ◌==◌, not, nat_lt, if◌then◌else◌}
-use Rattle.admin_wire.specs.declared.codes.TheConstants.{HEADER_LEN, OBJECT_HEAD_LEN, VIRTIO_ADMIN_CMD_RESOURCE_OBJ_CREATE, VIRTIO_ADMIN_GROUP_TYPE_SELF}
+use Rattle.std.specs.Prelude.{◌≡◌, ℕ, List, length, drop, Result, Ok, Err, nat_lt, if◌then◌else◌}
+use Rattle.byte_numbers.specs.Numbers.{le16_at, le64_at}
 use Rattle.admin_wire.specs.declared.command.Command.{Command}
-use Rattle.admin_wire.specs.declared.command.Command.TheVariants.{Create}
-use Rattle.admin_wire.specs.declared.command.ObjHead.{ObjHead}
+use Rattle.admin_wire.specs.declared.command.Command.TheVariants as commands
 use Rattle.admin_wire.specs.declared.error.WireErr.{WireErr}
-use Rattle.admin_wire.specs.declared.error.WireErr.TheVariants.{ShortHeader, Opcode, Group, Member, ShortData}
+use Rattle.admin_wire.specs.declared.error.WireErr.TheVariants.{ShortData}
+use Rattle.admin_wire.specs.declared.opcode.Opcode.{Opcode}
+use Rattle.admin_wire.specs.declared.opcode.Opcode.TheVariants as opcodes
+use Rattle.admin_wire.specs.Capabilities.{cap_of}
+use Rattle.admin_wire.specs.Codes.{header_size, bitmap_size, cap_head_size, head_size, bare_head_size}
 use Rattle.admin_wire.specs.Faults.{◌>>=◌}
-use Rattle.admin_wire.specs.Numbers.{le16_at, le32_at, le64_at}
-use Rattle.admin_wire.specs.Objects.{object_of}
+use Rattle.admin_wire.specs.Headers.{header_of}
+use Rattle.admin_wire.specs.Objects.{head_of, bare_head_of, head_and_object}
 
--- the opcode, where there is a whole header: le16 opcode, le16 group type, 12 reserved bytes, le64 member id
-unfoldable pub opcode_of : List ℕ → Option ℕ
-opcode_of bytes = if nat_lt (length bytes) HEADER_LEN then None else Some (le16_at bytes 0)
+-- le64 bitmap
+unfoldable pub list_use_of : List ℕ → Result Command WireErr
+list_use_of bytes = if nat_lt (length bytes) bitmap_size then Err ShortData else Ok (commands.ListUse (le64_at bytes 0))
 
--- the opcode that a header gives, or the header's first fault: it is cut, its opcode isn't read, its group type
--- or its member id isn't 0 (which opcodes and groups are accepted is this project's own)
-unfoldable pub header_of : List ℕ → Result ℕ WireErr
-header_of bytes =
-    if nat_lt (length bytes) HEADER_LEN then Err ShortHeader
-    else if not (le16_at bytes 0 == VIRTIO_ADMIN_CMD_RESOURCE_OBJ_CREATE) then Err (Opcode (le16_at bytes 0))
-    else if not (le16_at bytes 2 == VIRTIO_ADMIN_GROUP_TYPE_SELF) then Err (Group (le16_at bytes 2))
-    else if not (le64_at bytes 16 == 0) then Err (Member (le64_at bytes 16))
-    else Ok (le16_at bytes 0)
+-- le16 id, 6 reserved bytes
+unfoldable pub cap_get_of : List ℕ → Result Command WireErr
+cap_get_of bytes = if nat_lt (length bytes) cap_head_size then Err ShortData else Ok (commands.CapGet (le16_at bytes 0))
 
--- le16 type, 2 reserved bytes, le32 id, le64 flags
-unfoldable pub head_of : List ℕ → ObjHead
-head_of bytes = record { type_code = le16_at bytes 0; id = le32_at bytes 4; flags = le64_at bytes 8 }
+-- a head with its flags; a head alone
+unfoldable pub query_of : List ℕ → Result Command WireErr
+query_of bytes = if nat_lt (length bytes) head_size then Err ShortData else Ok (commands.Query (head_of bytes))
 
--- the create whose data begins the bytes: the head with its flags, and the object's data
-unfoldable pub create_of : List ℕ → Result Command WireErr
-create_of bytes =
-    if nat_lt (length bytes) OBJECT_HEAD_LEN then Err ShortData else do
-      object ← object_of (head_of bytes).type_code (drop OBJECT_HEAD_LEN bytes)
-      Ok (Create (head_of bytes) object)
+unfoldable pub destroy_of : List ℕ → Result Command WireErr
+destroy_of bytes =
+    if nat_lt (length bytes) bare_head_size then Err ShortData else Ok (commands.Destroy (bare_head_of bytes))
+
+-- the command of an opcode, from the bytes behind the header
+unfoldable pub data_of : Opcode → List ℕ → Result Command WireErr
+data_of opcodes.ListQuery bytes = Ok commands.ListQuery
+data_of opcodes.ListUse bytes = list_use_of bytes
+data_of opcodes.CapIds bytes = Ok commands.CapIds
+data_of opcodes.CapGet bytes = cap_get_of bytes
+data_of opcodes.CapSet bytes = do
+  cap ← cap_of bytes
+  Ok (commands.CapSet cap)
+data_of opcodes.Create bytes = do
+  parts ← head_and_object bytes
+  Ok (commands.Create parts.0 parts.1)
+data_of opcodes.Modify bytes = do
+  parts ← head_and_object bytes
+  Ok (commands.Modify parts.0 parts.1)
+data_of opcodes.Query bytes = query_of bytes
+data_of opcodes.Destroy bytes = destroy_of bytes
 
 -- the command that the bytes lay out, or their first fault: that of the header, or that the data is cut
 unfoldable pub command_of : List ℕ → Result Command WireErr
-command_of bytes = header_of bytes >>= λ _. create_of (drop HEADER_LEN bytes)
+command_of bytes = do
+  opcode ← header_of bytes
+  data_of opcode (drop header_size bytes)
 
 -- the bytes have the layout of the command
 abbrev pub Reads : List ℕ → Command → Type 0

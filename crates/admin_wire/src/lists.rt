@@ -1,11 +1,16 @@
 //! Lists of selectors in the bytes.
 
-ghost use Rattle.std.specs.Prelude.{◌≡◌, ◌≤◌, length, IfOk};
+ghost use Rattle.std.specs.Prelude.{◌≡◌, ◌+◌, ◌≤◌, length, flat_map, IfOk, All};
+ghost use Rattle.admin_wire.specs.Codes.{entry_head_size, most_command_bytes};
+ghost use Rattle.admin_wire.specs.Fields.{Writes, written};
+ghost use Rattle.admin_wire.specs.Layouts.{selector_fields, list_fields, IsKnownList, IsGoodList};
+ghost use Rattle.ff_headers.specs.SelectorParts.{IsWhole};
 ghost use Rattle.admin_wire.specs.Lists.{entry_len, whole_entry, selector_of, with_entry, list_of};
 
 use crate::codes::{ENTRY_HEAD_LEN, LIST_HEAD_LEN};
-use crate::command::RawList;
+use crate::command::{CommandBytes, RawList};
 use crate::error::WireErr;
+use crate::put_field::{put_8, put_raw, put_reserved};
 use arrayvec::ArrayVec;
 use ff_headers::{Kind, Selector};
 
@@ -76,4 +81,43 @@ pub(crate) fn list_of(bytes: &[u8]) -> Result<RawList, WireErr>
         rest = after;
     }
     Ok(list)
+}
+
+/// Appends an entry.
+fn put_selector(bytes: &mut CommandBytes, selector: &Selector)
+    requires { length bytes.old.items + entry_head_size + length selector.now.mask ≤ most_command_bytes }
+    ensures writes { Writes bytes.old.items (selector_fields selector.now) bytes.new.items }
+    ensures whole { IsWhole selector.now }
+{
+    let mask = selector.mask();
+    put_8(bytes, selector.kind().code());
+    put_8(bytes, selector.flags());
+    put_reserved::<2>(bytes);
+    put_8(bytes, mask.len() as u8);
+    put_reserved::<3>(bytes);
+    put_raw(bytes, mask);
+}
+
+/// Appends the entries of a list.
+fn put_entries(bytes: &mut CommandBytes, selectors: &[Selector])
+    requires { length bytes.old.items + length (written (flat_map selector_fields selectors.now)) ≤ most_command_bytes }
+    ensures writes { Writes bytes.old.items (flat_map selector_fields selectors.now) bytes.new.items }
+    ensures whole { All IsWhole selectors.now }
+{
+    for selector in selectors {
+        put_selector(bytes, selector);
+    }
+}
+
+/// Appends a list. One that is odd has no bytes of its own.
+pub(crate) fn put_list(bytes: &mut CommandBytes, list: &RawList)
+    requires { length bytes.old.items + length (written (list_fields list.now)) ≤ most_command_bytes }
+    ensures writes { Writes bytes.old.items (list_fields list.now) bytes.new.items }
+    ensures good { IsKnownList list.now → IsGoodList list.now }
+{
+    if let RawList::Good(selectors) = list {
+        put_8(bytes, selectors.len() as u8);
+        put_reserved::<7>(bytes);
+        put_entries(bytes, selectors.as_slice());
+    }
 }

@@ -1,75 +1,89 @@
 //! From bytes to the command that they lay out.
 
-ghost use Rattle.std.specs.Prelude.{◌≡◌, ◌≤◌, ◌↔◌, length, OnOk};
-ghost use Rattle.admin_wire.specs.declared.command.ObjData.{ObjData};
-ghost use Rattle.admin_wire.specs.declared.command.ObjHead.{ObjHead};
-ghost use Rattle.admin_wire.specs.Creates.{HasLayout, IsLaidOut};
-ghost use Rattle.admin_wire.specs.Wire.{opcode_of, header_of, head_of, create_of, command_of};
+ghost use Rattle.std.specs.Prelude.{◌≡◌, ◌↔◌, Some, IfOk};
+ghost use Rattle.admin_wire.specs.declared.command.Command.{Command};
+ghost use Rattle.admin_wire.specs.declared.error.WireErr.{WireErr};
+ghost use Rattle.admin_wire.specs.Headers.{opcode_of};
+ghost use Rattle.admin_wire.specs.Layouts.{HasLayout, IsLaidOut, opcode_for};
+ghost use Rattle.admin_wire.specs.Needs.{IsFault};
+ghost use Rattle.admin_wire.specs.Opcodes.{code_of};
+ghost use Rattle.admin_wire.specs.Wire.{list_use_of, cap_get_of, query_of, destroy_of, data_of, command_of};
 
-use crate::codes::{
-    HEADER_LEN, OBJECT_HEAD_LEN, VIRTIO_ADMIN_CMD_RESOURCE_OBJ_CREATE, VIRTIO_ADMIN_GROUP_TYPE_SELF,
-};
-use crate::command::{Command, ObjHead};
+use crate::capabilities::cap_of;
+use crate::codes::{BARE_HEAD_LEN, BITMAP_LEN, CAP_HEAD_LEN, HEAD_LEN, HEADER_LEN};
+use crate::command::Command;
 use crate::error::WireErr;
-use crate::numbers::{le16_at, le32_at, le64_at};
-use crate::objects::object_of;
+use crate::header::header_of;
+use crate::objects::{bare_head_of, head_and_object, head_of};
+use crate::opcode::Opcode;
+use byte_numbers::{le16_at, le64_at};
 
-/// The opcode of a command, if the bytes have its whole header: 24 bytes.
-#[tactic(auto, unfolding(crate::specs::Wire::opcode_of))]
-pub fn opcode_of(bytes: &[u8]) -> Option<u16>
-    ensures { result ≡ opcode_of bytes.now }
+/// Which opcodes are to be used.
+#[tactic(auto, unfolding(crate::specs::Wire::list_use_of))]
+fn list_use_of(bytes: &[u8]) -> Result<Command, WireErr>
+    ensures { result ≡ list_use_of bytes.now }
 {
-    if bytes.len() < HEADER_LEN {
-        return None;
-    }
-    Some(le16_at(bytes, 0))
-}
-
-/// The opcode that a header gives, or the header's first fault.
-#[tactic(auto, unfolding(crate::specs::Wire::header_of, crate::specs::Wire::opcode_of))]
-fn header_of(bytes: &[u8]) -> Result<u16, WireErr>
-    ensures value { result ≡ header_of bytes.now }
-    ensures whole { OnOk result (HEADER_LEN ≤ length bytes.now) }
-{
-    let opcode = opcode_of(bytes).ok_or(WireErr::ShortHeader)?;
-    if opcode != VIRTIO_ADMIN_CMD_RESOURCE_OBJ_CREATE {
-        return Err(WireErr::Opcode(opcode));
-    }
-    let group = le16_at(bytes, 2);
-    if group != VIRTIO_ADMIN_GROUP_TYPE_SELF {
-        return Err(WireErr::Group(group));
-    }
-    let member = le64_at(bytes, 16);
-    if member != 0 {
-        return Err(WireErr::Member(member));
-    }
-    Ok(opcode)
-}
-
-/// The type, the id and the flags, which begin the data of a create.
-#[tactic(auto, unfolding(crate::specs::Wire::head_of))]
-fn head_of(bytes: &[u8]) -> ObjHead
-    requires { OBJECT_HEAD_LEN ≤ length bytes.now }
-    ensures { result ≡ head_of bytes.now }
-{
-    ObjHead {
-        type_code: le16_at(bytes, 0),
-        id: le32_at(bytes, 4),
-        flags: le64_at(bytes, 8),
-    }
-}
-
-/// The create whose data begins the bytes.
-#[tactic(auto, unfolding(crate::specs::Wire::create_of))]
-fn create_of(bytes: &[u8]) -> Result<Command, WireErr>
-    ensures { result ≡ create_of bytes.now }
-{
-    if bytes.len() < OBJECT_HEAD_LEN {
+    if bytes.len() < BITMAP_LEN {
         return Err(WireErr::ShortData);
     }
-    let head = head_of(bytes);
-    let object = object_of(head.type_code, &bytes[OBJECT_HEAD_LEN..])?;
-    Ok(Command::Create(head, object))
+    Ok(Command::ListUse(le64_at(bytes, 0)))
+}
+
+/// Which capability is asked for.
+#[tactic(auto, unfolding(crate::specs::Wire::cap_get_of))]
+fn cap_get_of(bytes: &[u8]) -> Result<Command, WireErr>
+    ensures { result ≡ cap_get_of bytes.now }
+{
+    if bytes.len() < CAP_HEAD_LEN {
+        return Err(WireErr::ShortData);
+    }
+    Ok(Command::CapGet(le16_at(bytes, 0)))
+}
+
+/// Which object is asked for.
+#[tactic(auto, unfolding(crate::specs::Wire::query_of))]
+fn query_of(bytes: &[u8]) -> Result<Command, WireErr>
+    ensures { result ≡ query_of bytes.now }
+{
+    if bytes.len() < HEAD_LEN {
+        return Err(WireErr::ShortData);
+    }
+    Ok(Command::Query(head_of(bytes)))
+}
+
+/// Which object is to be destroyed.
+#[tactic(auto, unfolding(crate::specs::Wire::destroy_of))]
+fn destroy_of(bytes: &[u8]) -> Result<Command, WireErr>
+    ensures { result ≡ destroy_of bytes.now }
+{
+    if bytes.len() < BARE_HEAD_LEN {
+        return Err(WireErr::ShortData);
+    }
+    Ok(Command::Destroy(bare_head_of(bytes)))
+}
+
+/// The command of an opcode, from the bytes behind the header.
+#[tactic(auto, unfolding(crate::specs::Wire::data_of))]
+fn data_of(opcode: Opcode, bytes: &[u8]) -> Result<Command, WireErr>
+    ensures { result ≡ data_of opcode bytes.now }
+{
+    match opcode {
+        Opcode::ListQuery => Ok(Command::ListQuery),
+        Opcode::ListUse => list_use_of(bytes),
+        Opcode::CapIds => Ok(Command::CapIds),
+        Opcode::CapGet => cap_get_of(bytes),
+        Opcode::CapSet => Ok(Command::CapSet(cap_of(bytes)?)),
+        Opcode::Create => {
+            let (head, object) = head_and_object(bytes)?;
+            Ok(Command::Create(head, object))
+        }
+        Opcode::Modify => {
+            let (head, object) = head_and_object(bytes)?;
+            Ok(Command::Modify(head, object))
+        }
+        Opcode::Query => query_of(bytes),
+        Opcode::Destroy => destroy_of(bytes),
+    }
 }
 
 /// The command behind a header that is sound.
@@ -77,11 +91,11 @@ fn create_of(bytes: &[u8]) -> Result<Command, WireErr>
 fn command_of(bytes: &[u8]) -> Result<Command, WireErr>
     ensures { result ≡ command_of bytes.now }
 {
-    header_of(bytes)?;
-    create_of(&bytes[HEADER_LEN..])
+    let opcode = header_of(bytes)?;
+    data_of(opcode, &bytes[HEADER_LEN..])
 }
 
-/// The command that the bytes lay out. The opcode of a create alone is read so far.
+/// The command that the bytes lay out.
 ///
 /// # Errors
 ///
@@ -89,9 +103,10 @@ fn command_of(bytes: &[u8]) -> Result<Command, WireErr>
 pub fn read_command(bytes: &[u8]) -> Result<Command, WireErr>
     ensures exact { result ≡ command_of bytes.now }
 
-    // It is a create exactly where that create is laid out, whatever stands in reserved bytes and behind it.
-    ensures laid_out { (head : ObjHead) (object : ObjData) → HasLayout head.type_code object
-        → (result ≡ Ok (Command.Create head object)) ↔ IsLaidOut bytes.now head object }
+    // It is a command exactly where that command is laid out, whatever stands in reserved bytes and behind it.
+    ensures laid_out { (command : Command) → HasLayout command → (result ≡ Ok command) ↔ IsLaidOut bytes.now command }
+    ensures opcode { IfOk result (λ command. opcode_of bytes.now ≡ Some (code_of (opcode_for command))) }
+    ensures refused { (fault : WireErr) → (result ≡ Err fault) ↔ IsFault bytes.now fault }
 {
     command_of(bytes)
 }

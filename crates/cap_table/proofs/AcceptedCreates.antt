@@ -3,11 +3,12 @@
 use Rattle.std.proofs.Common.{◌≡◌, ℕ, ◌≤◌, Bool, true, false, not, ◌&&◌, ◌||◌, cond, List, length, Option, Some, None, refl, ap, subst, arith}
 use Rattle.std.specs.Prelude.{is_some, nat_le, nat_lt, ◌==◌}
 use Rattle.std.specs.Option.{option_map_or}
+use Rattle.std.proofs.lemmas.Bool.{or_right, and_from}
 use Rattle.std.proofs.lemmas.Bool.Decides.{nat_tests}
 use Rattle.ff_headers.specs.SelectorParts.{SelectorParts}
 use Rattle.ff_headers.specs.RuleParts.{RuleParts}
 use Rattle.ff_headers.specs.Matching.{key_size}
-use Rattle.ff_headers.specs.Objects.{FlowObjects, held}
+use Rattle.ff_headers.specs.Objects.{FlowObjects, object_under}
 use Rattle.ff_headers.specs.Changes.{has_room, is_sound, is_backed, CarriesShape}
 use Rattle.ff_headers.specs.Shapes.{shape_fault}
 use Rattle.ff_headers.specs.declared.change.Change.{Change}
@@ -20,20 +21,13 @@ use Rattle.admin_wire.specs.declared.command.ObjHead.{ObjHead}
 use Rattle.admin_wire.specs.declared.command.ObjData.{ObjData}
 use Rattle.admin_wire.specs.declared.command.ObjData.TheVariants as objs
 use Rattle.admin_wire.specs.declared.command.RawRule.{RawRule}
-use Rattle.admin_wire.specs.Creates.{key_bytes}
-use Rattle.cap_table.specs.Caps.{CapsParts, DriverParts, AtMost, drop_action, queue_action, is_action_set}
+use Rattle.admin_wire.specs.Codes.{drop_action, queue_action}
+use Rattle.admin_wire.specs.Layouts.{key_bytes}
+use Rattle.cap_table.specs.Caps.{CapsParts, DriverParts, AtMost, is_action_set}
 use Rattle.cap_table.specs.States.{QueuesWithin, is_receive_queue}
-use Rattle.cap_table.specs.Rows.{NoneHolds, first_verdict}
+use Rattle.cap_table.specs.Rows.{first_verdict}
 use Rattle.cap_table.specs.Verdicts.{command_rows, rule_faults, change_of, selectors_in, rule_parts, action_of_byte}
-use Rattle.cap_table.proofs.RowLemmas.{IsSoundContent, sound_content, none_holds}
-
-or_right : (a b : Bool) → b ≡ true → (a || b) ≡ true
-or_right true b h = refl
-or_right false b h = h
-
-both : (a b : Bool) → a ≡ true → b ≡ true → (a && b) ≡ true
-both true b h k = k
-both false b h k = absurd cc
+use Rattle.cap_table.proofs.RowLemmas.{NoneHolds, IsSoundContent, sound_content, none_holds}
 
 not_false : (b : Bool) → not b ≡ false → b ≡ true
 not_false true h = refl
@@ -48,10 +42,10 @@ room_below : (count small limit : ℕ) → small ≤ limit → nat_le small coun
 room_below count small limit le h = grind (arith, nat_tests)
 
 room_for_one : {X : Type 0} (es : List (ℕ × X)) (id small limit : ℕ) → small ≤ limit → nat_le small (length es) ≡ false → has_room es id limit ≡ true
-room_for_one es id small limit le h = or_right (is_some (held es id)) (nat_lt (length es) limit) (room_below (length es) small limit le h)
+room_for_one es id small limit le h = or_right (is_some (object_under es id)) (nat_lt (length es) limit) (room_below (length es) small limit le h)
 
 -- what is asked of a new id
-if_new : (held other room : Bool) → held ≡ false → room ≡ true → cond held other room ≡ true
+if_new : (is_held other room : Bool) → is_held ≡ false → room ≡ true → cond is_held other room ≡ true
 if_new true other room new free = absurd cc
 if_new false other room new free = free
 
@@ -87,7 +81,7 @@ rule_is h = cc
 
 module _ (caps : CapsParts) (driver : DriverParts) (objects : FlowObjects) (at_most : AtMost driver.limits caps.limits) where
   rule_backed : (id : ℕ) (rule : RawRule) → IsSoundContent (rule_faults caps driver objects id rule) → is_backed objects (rule_parts rule) ≡ true
-  rule_backed id rule sound = both _ _ (not_false _ sound.group_held) (key_right (held objects.classifiers rule.classifier) (length (key_bytes rule.key)) sound.classifier_held sound.key_fits)
+  rule_backed id rule sound = and_from _ _ (not_false _ sound.group_held) (key_right (object_under objects.classifiers rule.classifier) (length (key_bytes rule.key)) sound.classifier_held sound.key_fits)
 
   rule_queues : (id : ℕ) (rule : RawRule) → IsSoundContent (rule_faults caps driver objects id rule) → QueuesWithin caps.pairs (id, rule_parts rule)
   rule_queues id rule sound act =
@@ -96,7 +90,7 @@ module _ (caps : CapsParts) (driver : DriverParts) (objects : FlowObjects) (at_m
   accepted_object : (head : ObjHead) (object : ObjData) → NoneHolds (command_rows caps driver objects (Create head object)) → (change : Change) → change_of (Create head object) ≡ Some change → IsAccepted caps objects change
   unfolding is_sound
   accepted_object head (objs.Group priority) none change put = subst (IsAccepted caps objects) (some_is put) (record {
-    sound = both _ _ (room_for_one objects.groups head.id driver.limits.groups caps.limits.groups at_most.groups none.1.1.1.0) (ap not none.1.1.1.1.0);
+    sound = and_from _ _ (room_for_one objects.groups head.id driver.limits.groups caps.limits.groups at_most.groups none.1.1.1.0) (ap not none.1.1.1.1.0);
     shaped = tt;
     queues = λ id rule e. absurd cc;
   })
@@ -108,7 +102,7 @@ module _ (caps : CapsParts) (driver : DriverParts) (objects : FlowObjects) (at_m
   accepted_object head (objs.Rule rule) none change put =
       let sound = sound_content (rule_faults caps driver objects head.id rule) none.1.1.1.1 in
       subst (IsAccepted caps objects) (some_is put) (record {
-        sound = both _ _ (rule_backed head.id rule sound) (room_for_one objects.rules head.id driver.limits.rules caps.limits.rules at_most.rules none.1.1.1.0);
+        sound = and_from _ _ (rule_backed head.id rule sound) (room_for_one objects.rules head.id driver.limits.rules caps.limits.rules at_most.rules none.1.1.1.0);
         shaped = tt;
         queues = λ id other e. subst (λ (r : RuleParts). QueuesWithin caps.pairs (id, r)) (rule_is e) (rule_queues head.id rule sound);
       })

@@ -9,9 +9,10 @@ use Rattle.admin_wire.specs.declared.command.Command.TheVariants.{Create}
 use Rattle.admin_wire.specs.declared.command.ObjData.TheVariants as objs
 use Rattle.admin_wire.specs.declared.error.WireErr.{WireErr}
 use Rattle.admin_wire.specs.declared.reply.Reply.{Reply}
-use Rattle.admin_wire.specs.Numbers.{le16_at}
+use Rattle.byte_numbers.specs.Numbers.{le16_at}
 use Rattle.admin_wire.specs.Replies.{whole_reply, reply_bytes}
-use Rattle.admin_wire.specs.Wire.{command_of, opcode_of}
+use Rattle.admin_wire.specs.Wire.{command_of}
+use Rattle.admin_wire.specs.Headers.{opcode_of}
 use Rattle.cap_table.specs.Caps.{CapsParts, DriverParts}
 use Rattle.cap_table.specs.States.{DeviceState}
 use Rattle.cap_table.specs.Rows.{Row, first_verdict, no_memory}

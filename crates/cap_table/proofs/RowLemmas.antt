@@ -1,10 +1,15 @@
 -- Rows of conditions: no row holds exactly where there is no verdict, and what the rows on a layout say.
-use Rattle.std.proofs.Common.{◌≡◌, ℕ, Bool, true, false, ◌||◌, cond, List, [], ◌∷◌, ◌++◌, Option, Some, None, Result, Ok, Err, refl, ap, ◌∙◌}
+use Rattle.std.proofs.Common.{◌≡◌, ℕ, Bool, true, false, not, ◌&&◌, ◌||◌, cond, List, [], ◌∷◌, ◌++◌, Option, Some, None, Result, Ok, Err, refl, ap, ◌∙◌}
 use Rattle.admin_wire.specs.declared.command.Command.{Command}
 use Rattle.admin_wire.specs.declared.error.WireErr.{WireErr}
 use Rattle.admin_wire.specs.declared.error.WireErr.TheVariants as wire_err
-use Rattle.cap_table.specs.Rows.{Row, NoneHolds, first_verdict, invalid_command, invalid_opcode, invalid_group, invalid_member}
-use Rattle.cap_table.specs.Verdicts.{RuleFaults, rule_rows, layout_rows, is_header_cut, is_opcode_unknown, is_opcode_unused, is_group_other, is_member_other, is_data_cut, fault_verdict}
+use Rattle.cap_table.specs.Rows.{Row, first_verdict, invalid_command, invalid_opcode, invalid_group, invalid_member}
+use Rattle.cap_table.specs.Verdicts.{RuleFaults, rule_rows, layout_rows, is_header_cut, is_opcode_unknown, is_opcode_unused, is_group_other, is_member_other, is_data_cut}
+
+-- no row holds
+abbrev pub NoneHolds : List Row → Type 0
+NoneHolds [] = Unit {0}
+NoneHolds (row ∷ rows) = (row.0 ≡ false) × NoneHolds rows
 
 -- there is no verdict, so no row holds
 pub none_holds : (rows : List Row) → first_verdict rows ≡ None → NoneHolds rows
@@ -60,10 +65,6 @@ pub no_rule_row : (faults : RuleFaults) → IsSoundContent faults → NoneHolds 
 no_rule_row faults sound = (sound.key_good, (sound.group_held, (sound.classifier_held, (sound.priority_within, (sound.key_fits, (sound.action_set, (sound.queue_right, (sound.room_in_group, tt))))))))
 
 module _ (in_use : ℕ) (opcode : Option ℕ) (more : List Row) where
-  -- the header is cut
-  pub header_verdict : first_verdict (layout_rows in_use opcode (Err wire_err.ShortHeader) ++ more) ≡ Some invalid_command
-  header_verdict = refl
-
   -- there is a header, and its opcode isn't in use
   pub opcode_verdict : (read : Result Command WireErr) → is_header_cut read ≡ false → is_opcode_unused in_use opcode ≡ true → first_verdict (layout_rows in_use opcode read ++ more) ≡ Some invalid_opcode
   opcode_verdict read whole unused = by_tests (is_header_cut read) (is_opcode_unknown read) (is_opcode_unused in_use opcode) whole unused where
@@ -73,8 +74,8 @@ module _ (in_use : ℕ) (opcode : Option ℕ) (more : List Row) where
     by_tests false false true h k = refl
     by_tests false false false h k = absurd cc
 
-  -- the opcode is in use, and the bytes lay out no command
-  pub fault_row : (fault : WireErr) → is_opcode_unused in_use opcode ≡ false → first_verdict (layout_rows in_use opcode (Err fault) ++ more) ≡ Some (fault_verdict fault)
+  -- the bytes lay out no command, and their opcode isn't out of use
+  pub fault_row : (fault : WireErr) → (not (is_header_cut (Err fault)) && is_opcode_unused in_use opcode) ≡ false → first_verdict (layout_rows in_use opcode (Err fault) ++ more) ≡ first_verdict (layout_rows 0 None (Err fault))
   fault_row wire_err.ShortHeader used = refl
   fault_row (wire_err.Opcode op) used = refl
   fault_row (wire_err.Group group) used = rw used refl

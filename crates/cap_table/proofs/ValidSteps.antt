@@ -6,14 +6,17 @@ use Rattle.std.specs.Ordering.{nat_cmp}
 use Rattle.std.specs.BTreeMap.{is_at}
 use Rattle.std.specs.declared.cmp.Ordering.TheVariants.{Less, Equal, Greater}
 use Rattle.std.proofs.lemmas.Bool.{cases_lt}
+use Rattle.std.proofs.lemmas.List.Elements.{All-nil}
+use Rattle.ff_headers.specs.SelectorParts.{IsWhole}
 use Rattle.std.proofs.lemmas.Bool.Decides.{nat_tests}
-use Rattle.ff_headers.specs.Changes.{is_sound, put, without, changed, step}
+use Rattle.ff_headers.specs.Changes.{is_sound, put, without, with_change_made, step}
 use Rattle.ff_headers.specs.declared.change.Change.{Change}
 use Rattle.ff_headers.specs.declared.change.Change.TheVariants.{PutGroup, DropGroup, PutClassifier, DropClassifier, PutRule, DropRule, Close}
 use Rattle.ff_headers.proofs.ChangeLemmas.{step_keeps, none_are_well_formed}
 use Rattle.admin_wire.specs.declared.command.Command.{Command}
 use Rattle.admin_wire.specs.declared.error.WireErr.{WireErr}
-use Rattle.admin_wire.specs.Wire.{command_of, opcode_of}
+use Rattle.admin_wire.specs.Wire.{command_of}
+use Rattle.admin_wire.specs.Headers.{opcode_of}
 use Rattle.cap_table.specs.Caps.{CapsParts, AreCaps}
 use Rattle.cap_table.specs.States.{DeviceState, QueuesWithin, IsValid, start_state}
 use Rattle.cap_table.specs.Rows.{first_verdict}
@@ -93,8 +96,8 @@ module _ (state : DeviceState) (valid : IsValid state) where
   pub safe_from_effect : (effect : Effect) → IsEffect state effect → IsSafe state effect
   safe_from_effect effect is = subst (IsSafe state) is.2 (safe_effect is.0 is.1)
 
-  queues_kept : (change : Change) → IsAccepted state.caps state.objects change → AllByRecursion (QueuesWithin state.caps.pairs) (changed state.objects change).rules
-  unfolding changed
+  queues_kept : (change : Change) → IsAccepted state.caps state.objects change → AllByRecursion (QueuesWithin state.caps.pairs) (with_change_made state.objects change).rules
+  unfolding with_change_made
   queues_kept (PutRule id rule) accepted = all_put (QueuesWithin state.caps.pairs) state.objects.rules id rule (accepted.queues id rule refl) valid.queues
   queues_kept (DropRule id) accepted = all_without (QueuesWithin state.caps.pairs) state.objects.rules id valid.queues
   queues_kept (PutGroup id priority) accepted = valid.queues
@@ -132,7 +135,7 @@ start_is_valid caps Ready are = record {
 start_is_valid caps Reset are = record {
   objects = none_are_well_formed caps.limits;
   limits = record { groups = omega arith; classifiers = omega arith; rules = omega arith; per_group = omega arith; last_priority = omega arith; selectors = omega arith };
-  selectors = λ k lt. absurd (omega arith);
+  selectors = record { rising = λ k lt. absurd (omega arith); whole = All-nil IsWhole };
   queues = tt;
   list_query = refl;
   list_use = refl;

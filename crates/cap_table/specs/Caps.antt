@@ -1,6 +1,6 @@
 -- What a device offers and what its driver set of it: the device capabilities of the Virtio 1.4 draft for flow
 -- filters (`VIRTIO_NET_FF_RESOURCE_CAP`, `.._SELECTOR_CAP`, `.._ACTION_CAP`). The ranges are this project's own.
-use Rattle.std.specs.Prelude.{ℕ, ◌≤◌, Bool, true, false, ◌&&◌, ◌==◌, nat_lt, if◌then◌else◌, Option, List, [], ◌∷◌, map, replicate}
+use Rattle.std.specs.Prelude.{ℕ, ◌≤◌, Bool, true, false, ◌&&◌, ◌==◌, nat_lt, if◌then◌else◌, Option, List, [], ◌∷◌, map, replicate, All}
 use Rattle.std.specs.List.{find, list_all, enumerate_from}
 use Rattle.std.specs.List.Sorted.{IsStrictlyIncreasing}
 use Rattle.std.specs.Option.{option_map_or}
@@ -8,11 +8,12 @@ use Rattle.ff_headers.specs.declared.kind.Kind.{Kind}
 use Rattle.ff_headers.specs.declared.kind.Kind.TheVariants.{Eth, Ipv4, Ipv6, Tcp, Udp}
 use Rattle.ff_headers.specs.declared.limits.Limits.{Limits}
 use Rattle.ff_headers.specs.Kinds.{kind_code, kind_size}
-use Rattle.ff_headers.specs.SelectorParts.{SelectorParts}
+use Rattle.ff_headers.specs.SelectorParts.{SelectorParts, IsWhole}
 use Rattle.ff_headers.specs.Shapes.{codes_of}
 use Rattle.ff_headers.specs.Fields.{is_allowed}
+use Rattle.admin_wire.specs.Codes.{drop_action, queue_action}
 
--- the queue pairs, the limits on objects, and for each header that can be selected the bits that a mask may have
+-- the queue pairs, the limits on objects, and a selector for each header that can be selected, which allows some masks
 pub record CapsParts : Type 0 where
   pub pairs : ℕ
   pub limits : Limits
@@ -36,24 +37,30 @@ pub record AtMost (some most : Limits) : Type 0 where
 
 -- what this project's device can have at most
 abbrev pub greatest_limits : Limits
-greatest_limits = record { groups = 16; classifiers = 64; rules = 1024; per_group = 1024; last_priority = 255; selectors = 3 }
+greatest_limits =
+    record { groups = 16; classifiers = 64; rules = 1024; per_group = 1024; last_priority = 255; selectors = 3 }
 
--- the capabilities that a device can have: 1 to 16 queue pairs, limits up to the greatest, and selectors of rising types
+-- the selectors of a capability: their types rise strictly, and their masks have their headers' sizes
+pub record AreSelectors (selectors : List SelectorParts) : Type 0 where
+  pub rising : IsStrictlyIncreasing (codes_of selectors)
+  pub whole : All IsWhole selectors
+
+-- the capabilities that a device can have: 1 to 16 queue pairs, and limits up to the greatest
 pub record AreCaps (caps : CapsParts) : Type 0 where
   pub some_pair : 1 ≤ caps.pairs
   pub pairs : caps.pairs ≤ 16
   pub limits : AtMost caps.limits greatest_limits
-  pub selectors : IsStrictlyIncreasing (codes_of caps.selectors)
+  pub selectors : AreSelectors caps.selectors
 
 -- a mask of ones, any part of which may be asked for (`VIRTIO_NET_FF_MASK_F_PARTIAL_MASK`)
 abbrev pub ones_selector : Kind → SelectorParts
 ones_selector kind = record { kind = kind; flags = 1; mask = replicate (kind_size kind) 255 }
 
--- the selectors of a device that names none
+-- the selectors of a device for which none is given
 abbrev pub all_selectors : List SelectorParts
 all_selectors = map ones_selector (Eth ∷ Ipv4 ∷ Ipv6 ∷ Tcp ∷ Udp ∷ [])
 
--- no object of any kind
+-- every limit 0
 abbrev pub no_limits : Limits
 no_limits = record { groups = 0; classifiers = 0; rules = 0; per_group = 0; last_priority = 0; selectors = 0 }
 
@@ -64,13 +71,6 @@ unset = record { limits = no_limits; selectors = []; drops = false; queues = fal
 -- the driver set all that the device offers
 abbrev pub same_as : CapsParts → DriverParts
 same_as caps = record { limits = caps.limits; selectors = caps.selectors; drops = true; queues = true }
-
--- the action bytes of a rule (virtio_net_ff.h, VIRTIO_NET_FF_ACTION_*)
-abbrev pub drop_action : ℕ
-drop_action = 1
-
-abbrev pub queue_action : ℕ
-queue_action = 2
 
 -- the driver set the action of a byte
 abbrev pub is_action_set : DriverParts → ℕ → Bool
@@ -83,8 +83,8 @@ is_action_set driver action =
 abbrev pub selector_of_kind : Kind → List SelectorParts → Option SelectorParts
 selector_of_kind kind have = find (λ one. kind_code one.kind == kind_code kind) have
 
--- A capability has the selector that stands at this place of a list: the place is within the limit on the list's length, there
--- is a selector of its kind, and that one allows its mask.
+-- A capability has the selector that stands at this place of a list: the place is within the limit on the list's
+-- length, there is a selector of its kind, and that one allows its mask.
 abbrev pub is_supported : ℕ → List SelectorParts → ℕ → SelectorParts → Bool
 is_supported limit have place selector =
     nat_lt place limit && option_map_or (λ one. is_allowed one selector) (selector_of_kind selector.kind have) false

@@ -1,4 +1,6 @@
 pub mod Caps
+pub mod CapSets
+pub mod CapResults
 pub mod States
 pub mod Rows
 pub mod Verdicts

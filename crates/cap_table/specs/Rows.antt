@@ -1,5 +1,5 @@
--- Rows of conditions, each with the verdict that is given where it is the first that holds. Which refusal has which status
--- and qualifier is this project's own; the statuses are errno's.
+-- Rows of conditions, each with the verdict that is given where it is the first that holds. Which refusal has which
+-- status and qualifier is this project's own; the statuses are errno's.
 use Rattle.std.specs.Prelude.{◌≡◌, Bool, false, List, [], ◌∷◌, Option, Some, None, Result, Ok, Err, if◌then◌else◌}
 use Rattle.cap_table.specs.declared.verdict.Verdict.{Verdict}
 
@@ -7,7 +7,7 @@ use Rattle.cap_table.specs.declared.verdict.Verdict.{Verdict}
 abbrev pub invalid_command : Verdict
 invalid_command = record { status = 22; qualifier = 1 }
 
--- EINVAL: the opcode isn't in use
+-- EINVAL: the opcode is none that the device has, or isn't in use
 abbrev pub invalid_opcode : Verdict
 invalid_opcode = record { status = 22; qualifier = 2 }
 
@@ -56,8 +56,3 @@ ok_unless (Some verdict) asked = Err verdict
 -- what is asked for, unless a row holds
 abbrev pub unless_refused : {X : Type 0} → List Row → X → Result X Verdict
 unless_refused rows asked = ok_unless (first_verdict rows) asked
-
--- no row holds
-abbrev pub NoneHolds : List Row → Type 0
-NoneHolds [] = Unit {0}
-NoneHolds (row ∷ rows) = (row.0 ≡ false) × NoneHolds rows

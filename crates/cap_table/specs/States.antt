@@ -1,13 +1,11 @@
 -- The state of a device's object machine: this project's subset of the draft's administration commands.
 use Rattle.std.specs.Prelude.{ℕ, ◌≡◌, ◌*◌, ◌%◌, Bool, ◌==◌, ◌&&◌, nat_lt, IsTrue}
 use Rattle.std.specs.List.{AllByRecursion}
-use Rattle.std.specs.List.Sorted.{IsStrictlyIncreasing}
 use Rattle.std.specs.Int.{bit_at}
 use Rattle.ff_headers.specs.Objects.{FlowObjects, no_objects, IsWellFormed}
 use Rattle.ff_headers.specs.RuleParts.{RuleParts}
-use Rattle.ff_headers.specs.Shapes.{codes_of}
 use Rattle.ff_headers.specs.declared.rule.RuleAction.TheVariants.{Queue}
-use Rattle.cap_table.specs.Caps.{CapsParts, DriverParts, AtMost, unset, same_as}
+use Rattle.cap_table.specs.Caps.{CapsParts, DriverParts, AreSelectors, AtMost, unset, same_as}
 use Rattle.cap_table.specs.declared.start.Start.{Start}
 use Rattle.cap_table.specs.declared.start.Start.TheVariants.{Ready, Reset}
 
@@ -57,7 +55,7 @@ QueuesWithin pairs (id, rule) = rule.action ≡ Queue → IsTrue (is_receive_que
 pub record IsValid (state : DeviceState) : Type 0 where
   pub objects : IsWellFormed state.caps.limits state.objects
   pub limits : AtMost state.driver.limits state.caps.limits
-  pub selectors : IsStrictlyIncreasing (codes_of state.driver.selectors)
+  pub selectors : AreSelectors state.driver.selectors
   pub queues : AllByRecursion (QueuesWithin state.caps.pairs) state.objects.rules
   pub list_query : bit_at state.in_use 0 ≡ 1
   pub list_use : bit_at state.in_use 1 ≡ 1

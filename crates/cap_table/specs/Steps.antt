@@ -1,7 +1,7 @@
 -- One step of the object machine, and its runs. This project's subset of the draft's administration commands.
 use Rattle.std.specs.Prelude.{ℕ, ◌≡◌, ◌≢◌, List, [], ◌∷◌, Option, Some, None}
 use Rattle.ff_headers.specs.Changes.{step}
-use Rattle.admin_wire.specs.Numbers.{le16_at}
+use Rattle.byte_numbers.specs.Numbers.{le16_at}
 use Rattle.admin_wire.specs.Replies.{reply_bytes}
 use Rattle.cap_table.specs.States.{DeviceState}
 use Rattle.cap_table.specs.Verdicts.{verdict_of}

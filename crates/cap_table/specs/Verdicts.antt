@@ -1,6 +1,6 @@
--- The verdict on a command: one list of rows over the bytes and the state, of which the first that holds decides. The commands
--- are the Virtio 1.4 draft's (administration commands, resource objects); the rows and their order are this project's own.
--- Of the commands, creates are read so far.
+-- The verdict on a command: one list of rows over the bytes and the state, of which the first that holds decides. The
+-- commands are the Virtio 1.4 draft's (administration commands, resource objects); the rows and their order are this
+-- project's own. Of the commands, creates are read so far.
 use Rattle.std.specs.Prelude.{ℕ, Bool, true, false, not, ◌&&◌, ◌||◌, ◌==◌, if◌then◌else◌, nat_lt, nat_le, is_some, List, [], ◌∷◌, ◌++◌, length}
 use Rattle.std.specs.Prelude.{Option, Some, None, Result, Ok, Err}
 use Rattle.std.specs.Option.{option_map_or}
@@ -8,9 +8,9 @@ use Rattle.ff_headers.specs.SelectorParts.{SelectorParts}
 use Rattle.ff_headers.specs.RuleParts.{RuleParts}
 use Rattle.ff_headers.specs.Shapes.{shape_fault}
 use Rattle.ff_headers.specs.Matching.{key_size}
-use Rattle.ff_headers.specs.Objects.{FlowObjects, held}
+use Rattle.ff_headers.specs.Objects.{FlowObjects, object_under}
 use Rattle.ff_headers.specs.Dependents.{other_rules_in_group}
-use Rattle.ff_headers.specs.Changes.{is_taken}
+use Rattle.ff_headers.specs.Changes.{is_priority_taken}
 use Rattle.ff_headers.specs.declared.rule.RuleAction.{RuleAction}
 use Rattle.ff_headers.specs.declared.rule.RuleAction.TheVariants.{Drop, Queue}
 use Rattle.ff_headers.specs.declared.change.Change.{Change}
@@ -28,9 +28,11 @@ use Rattle.admin_wire.specs.declared.command.RawKey.TheVariants as raw_key
 use Rattle.admin_wire.specs.declared.error.WireErr.{WireErr}
 use Rattle.admin_wire.specs.declared.error.WireErr.TheVariants as wire_err
 use Rattle.admin_wire.specs.declared.reply.Reply.{Reply}
-use Rattle.admin_wire.specs.Wire.{command_of, opcode_of}
-use Rattle.admin_wire.specs.Creates.{key_bytes}
-use Rattle.cap_table.specs.Caps.{CapsParts, DriverParts, are_supported, drop_action, queue_action, is_action_set}
+use Rattle.admin_wire.specs.Wire.{command_of}
+use Rattle.admin_wire.specs.Headers.{opcode_of}
+use Rattle.admin_wire.specs.Codes.{drop_action, queue_action}
+use Rattle.admin_wire.specs.Layouts.{key_bytes}
+use Rattle.cap_table.specs.Caps.{CapsParts, DriverParts, are_supported, is_action_set}
 use Rattle.cap_table.specs.States.{DeviceState, is_opcode_in, is_receive_queue}
 use Rattle.cap_table.specs.Rows.{Row, first_verdict, invalid_command, invalid_opcode, invalid_field, invalid_group}
 use Rattle.cap_table.specs.Rows.{invalid_member, already_there, no_space, no_object}
@@ -71,14 +73,6 @@ abbrev pub is_data_cut : Result Command WireErr → Bool
 is_data_cut (Err wire_err.ShortData) = true
 is_data_cut _ = false
 
--- the verdict on bytes that lay out no command, by their fault
-abbrev pub fault_verdict : WireErr → Verdict
-fault_verdict wire_err.ShortHeader = invalid_command
-fault_verdict (wire_err.Opcode _) = invalid_opcode
-fault_verdict (wire_err.Group _) = invalid_group
-fault_verdict (wire_err.Member _) = invalid_member
-fault_verdict wire_err.ShortData = invalid_command
-
 -- the rows on bytes that lay out no command that is in use, by their opcode and what they are read as
 abbrev pub layout_rows : ℕ → Option ℕ → Result Command WireErr → List Row
 layout_rows in_use opcode read =
@@ -102,9 +96,9 @@ is_type_unknown _ = false
 
 -- an object of the type is held under the id
 abbrev pub is_id_held : FlowObjects → ℕ → ObjData → Bool
-is_id_held objects id (Group _) = is_some (held objects.groups id)
-is_id_held objects id (Classifier _) = is_some (held objects.classifiers id)
-is_id_held objects id (Rule _) = is_some (held objects.rules id)
+is_id_held objects id (Group _) = is_some (object_under objects.groups id)
+is_id_held objects id (Classifier _) = is_some (object_under objects.classifiers id)
+is_id_held objects id (Rule _) = is_some (object_under objects.rules id)
 is_id_held objects id Other = false
 
 -- there are at least as many objects of the type as the driver's limit
@@ -140,7 +134,7 @@ is_key_odd raw_key.Odd = true
 -- the key has another length than the key size of the classifier that the rule names
 abbrev pub is_key_wrong : FlowObjects → RawRule → Bool
 is_key_wrong objects rule =
-    not (length (key_bytes rule.key) == option_map_or key_size (held objects.classifiers rule.classifier) 0)
+    not (length (key_bytes rule.key) == option_map_or key_size (object_under objects.classifiers rule.classifier) 0)
 
 -- an action that queues goes to no receive virtqueue
 abbrev pub is_queue_wrong : ℕ → RawRule → Bool
@@ -161,8 +155,8 @@ pub record RuleFaults : Type 0 where
 abbrev pub rule_faults : CapsParts → DriverParts → FlowObjects → ℕ → RawRule → RuleFaults
 rule_faults caps driver objects id rule = record {
   key_odd = is_key_odd rule.key;
-  group_missing = not (is_some (held objects.groups rule.group));
-  classifier_missing = not (is_some (held objects.classifiers rule.classifier));
+  group_missing = not (is_some (object_under objects.groups rule.group));
+  classifier_missing = not (is_some (object_under objects.classifiers rule.classifier));
   priority_too_great = nat_lt driver.limits.last_priority rule.priority;
   key_wrong = is_key_wrong objects rule;
   action_unset = not (is_action_set driver rule.action);
@@ -184,7 +178,7 @@ rule_rows faults =
 
 -- Content of a group: another has its priority.
 abbrev pub group_rows : FlowObjects → ℕ → ℕ → List Row
-group_rows objects id priority = (is_taken objects id priority, invalid_field) ∷ []
+group_rows objects id priority = (is_priority_taken objects id priority, invalid_field) ∷ []
 
 -- the content of the object that is to be held under an id
 abbrev pub content_rows : CapsParts → DriverParts → FlowObjects → ℕ → ObjData → List Row
@@ -259,16 +253,16 @@ effect_with None = effects.Nothing
 effect_with (Some change) = effects.Change change
 
 -- a reply that has no result
-abbrev pub bare_reply : Verdict → Reply
-bare_reply verdict = record { status = verdict.status; qualifier = verdict.qualifier; result = record { items = [] } }
+abbrev pub bare_reply : ℕ → ℕ → Reply
+bare_reply status qualifier = record { status = status; qualifier = qualifier; result = record { items = [] } }
 
 -- a refusal has no result and no effect
 abbrev pub refused : Verdict → Answer
-refused verdict = record { reply = bare_reply verdict; effect = effects.Nothing }
+refused verdict = record { reply = bare_reply verdict.status verdict.qualifier; effect = effects.Nothing }
 
 -- a command is obeyed: status and qualifier are 0, and there is no result
 abbrev pub obeyed : Effect → Answer
-obeyed effect = record { reply = bare_reply (record { status = 0; qualifier = 0 }); effect = effect }
+obeyed effect = record { reply = bare_reply 0 0; effect = effect }
 
 -- the answer where no row holds
 abbrev pub accepted : Result Command WireErr → Answer

@@ -29,7 +29,7 @@ impl Answer {
         ensures { result ≡ refused verdict }
     {
         Answer {
-            reply: bare_reply(verdict),
+            reply: bare_reply(verdict.status, verdict.qualifier),
             effect: Effect::Nothing,
         }
     }
@@ -38,24 +38,20 @@ impl Answer {
     pub fn obeyed(effect: Effect) -> Answer
         ensures { result ≡ obeyed effect }
     {
-        let done = Verdict {
-            status: 0,
-            qualifier: 0,
-        };
         Answer {
-            reply: bare_reply(done),
+            reply: bare_reply(0, 0),
             effect,
         }
     }
 }
 
 /// A reply that has no result.
-fn bare_reply(verdict: Verdict) -> Reply
-    ensures { result ≡ bare_reply verdict }
+fn bare_reply(status: u16, qualifier: u16) -> Reply
+    ensures { result ≡ bare_reply status qualifier }
 {
     Reply {
-        status: verdict.status,
-        qualifier: verdict.qualifier,
+        status,
+        qualifier,
         result: ArrayVec::new(),
     }
 }

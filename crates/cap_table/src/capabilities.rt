@@ -1,21 +1,16 @@
 //! What a device offers, and what its driver set of it.
 
-ghost use Rattle.std.specs.Prelude.{◌≡◌, ◌≤◌};
-ghost use Rattle.std.specs.List.Sorted.{IsStrictlyIncreasing};
-ghost use Rattle.ff_headers.specs.Shapes.{codes_of};
-ghost use Rattle.cap_table.specs.Caps.{AreCaps, AtMost, greatest_limits, all_selectors, same_as, unset};
+ghost use Rattle.std.specs.Prelude.{◌≡◌, ◌≤◌, All};
+ghost use Rattle.ff_headers.specs.SelectorParts.{IsWhole};
+ghost use Rattle.cap_table.specs.Caps.{AreCaps, AreSelectors, AtMost, greatest_limits, all_selectors, same_as, unset};
 ghost use Rattle.cap_table.specs.Caps.{is_action_set, are_supported};
+ghost use Rattle.cap_table.specs.CapSets.{IsSettable, with_cap};
 
 use crate::support::is_supported;
+use admin_wire::{CapData, RawList, VIRTIO_NET_FF_ACTION_DROP, VIRTIO_NET_FF_ACTION_RX_VQ};
 use arrayvec::ArrayVec;
 use ff_headers::{Kind, Limits, Selector};
 use std::marker::Model;
-
-/// The action byte of a rule that drops.
-pub const DROP_ACTION: u8 = 1;
-
-/// The action byte of a rule that sends to a receive queue.
-pub const QUEUE_ACTION: u8 = 2;
 
 /// What a device offers: its queue pairs, its limits on objects, and the selectors that a classifier may ask for, with
 /// types that rise strictly. Its actions are always drop and queue.
@@ -42,7 +37,7 @@ impl DeviceCaps {
         requires some_pair { 1 ≤ pairs }
         requires pairs { pairs ≤ 16 }
         requires limits { AtMost limits greatest_limits }
-        requires selectors { IsStrictlyIncreasing (codes_of selectors.items) }
+        requires selectors { AreSelectors selectors.items }
         ensures { result ≡ record { pairs = pairs; limits = limits; selectors = selectors.items } }
     {
         DeviceCaps {
@@ -52,8 +47,8 @@ impl DeviceCaps {
         }
     }
 
-    /// A device with 1 to 16 queue pairs, limits up to the greatest, and for each header a selector of ones, any part of which
-    /// may be asked for.
+    /// A device with 1 to 16 queue pairs, limits up to the greatest, and for each header a selector of ones, any part
+    /// of which may be asked for.
     pub fn with_all_selectors(pairs: u8, limits: Limits) -> DeviceCaps
         requires some_pair { 1 ≤ pairs }
         requires pairs { pairs ≤ 16 }
@@ -71,7 +66,7 @@ impl DeviceCaps {
         self.pairs
     }
 
-    /// The most objects that the device can hold.
+    /// The device's limits.
     pub fn limits(&self) -> &Limits
         ensures value { result.now ≡ self.now.limits }
         ensures ranges { AreCaps self.now }
@@ -98,15 +93,13 @@ pub struct DriverCaps {
 }
 
 impl Model for DriverCaps {
-    ghost use Rattle.std.specs.List.Sorted.{IsStrictlyIncreasing};
-    ghost use Rattle.ff_headers.specs.Shapes.{codes_of};
-    ghost use Rattle.cap_table.specs.Caps.{DriverParts};
+    ghost use Rattle.cap_table.specs.Caps.{DriverParts, AreSelectors};
 
     ghost Value = { DriverParts };
 
     ghost view = { λ c. record { limits = c.limits; selectors = c.selectors.items; drops = c.drop; queues = c.queue } };
 
-    ghost invariant = { λ c. IsStrictlyIncreasing (codes_of c.selectors.items) };
+    ghost invariant = { λ c. AreSelectors c.selectors.items };
 }
 
 impl DriverCaps {
@@ -141,7 +134,7 @@ impl DriverCaps {
         }
     }
 
-    /// The most objects that the driver asked for.
+    /// The limits that the driver set.
     pub fn limits(&self) -> &Limits
         ensures { result.now ≡ self.now.limits }
     {
@@ -151,7 +144,7 @@ impl DriverCaps {
     /// The selectors that the driver asked for, by rising type.
     pub fn selectors(&self) -> &[Selector]
         ensures value { result.now ≡ self.now.selectors }
-        ensures rising { IsStrictlyIncreasing (codes_of self.now.selectors) }
+        ensures good { AreSelectors self.now.selectors }
     {
         self.selectors.as_slice()
     }
@@ -161,13 +154,13 @@ impl DriverCaps {
         ensures { result ≡ is_action_set self.now action }
     {
         match action {
-            DROP_ACTION => self.drop,
-            QUEUE_ACTION => self.queue,
+            VIRTIO_NET_FF_ACTION_DROP => self.drop,
+            VIRTIO_NET_FF_ACTION_RX_VQ => self.queue,
             _ => false,
         }
     }
 
-    /// Whether the driver's capability has each selector of a list, and no more than its limit.
+    /// Whether the driver's capability has each selector of a list, and the list is within the driver's limit.
     pub fn has_selectors(&self, list: &[Selector]) -> bool
         ensures { result ≡ are_supported self.now.limits.selectors self.now.selectors list.now }
     {
@@ -178,11 +171,29 @@ impl DriverCaps {
             selector,
         ))
     }
+
+    /// Replaces the capability by the wanted one, and keeps the others.
+    #[tactic(auto, using(crate::proofs::SettingLemmas::selectors_that_rise))]
+    pub fn set(&mut self, wanted: &CapData)
+        requires settable { IsSettable wanted.now }
+        ensures { self.new ≡ with_cap self.old wanted.now }
+    {
+        match wanted {
+            CapData::Limits(limits) => self.limits = *limits,
+            CapData::Selectors(RawList::Good(list)) => self.selectors = copied(list),
+            CapData::Actions(actions) => {
+                self.drop = actions.drop;
+                self.queue = actions.queue;
+            }
+            CapData::Selectors(RawList::Odd) | CapData::Other(_) => {}
+        }
+    }
 }
 
 /// The selectors, in a list that takes no memory.
 fn copied(selectors: &ArrayVec<Selector, 5>) -> ArrayVec<Selector, 5>
-    ensures { result.items ≡ selectors.now.items }
+    ensures value { result.items ≡ selectors.now.items }
+    ensures whole { All IsWhole selectors.now.items }
 {
     let mut copies = ArrayVec::new();
     for selector in selectors.as_slice() {

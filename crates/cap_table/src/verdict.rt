@@ -1,12 +1,13 @@
 //! Why a command is refused.
 
-ghost use Rattle.std.specs.Prelude.{◌≡◌};
-ghost use Rattle.cap_table.specs.Verdicts.{fault_verdict};
+ghost use Rattle.std.specs.Prelude.{◌≡◌, None, Some, Err};
+ghost use Rattle.cap_table.specs.Rows.{first_verdict};
+ghost use Rattle.cap_table.specs.Verdicts.{layout_rows};
 
 use admin_wire::WireErr;
 
-/// Why a command is refused: a status of administration commands, which is never 0, with its qualifier. Which refusal has
-/// which is this project's own; the statuses are errno's.
+/// Why a command is refused: a status of administration commands, which is never 0, with its qualifier. Which refusal
+/// has which is this project's own; the statuses are errno's.
 #[derive(Clone, Copy, Debug, PartialEq, Eq)]
 pub struct Verdict {
     pub status: u16,
@@ -19,7 +20,7 @@ impl Verdict {
         status: 22,
         qualifier: 1,
     };
-    /// EINVAL: the opcode isn't in use.
+    /// EINVAL: the opcode is none that the device has, or isn't in use.
     pub const INVALID_OPCODE: Verdict = Verdict {
         status: 22,
         qualifier: 2,
@@ -60,9 +61,9 @@ impl Verdict {
         qualifier: 6,
     };
 
-    /// The verdict on bytes that lay out no command.
+    /// The verdict on bytes that lay out no command, where none is refused for an opcode out of use.
     pub fn of_fault(fault: WireErr) -> Verdict
-        ensures { result ≡ fault_verdict fault }
+        ensures { first_verdict (layout_rows 0 None (Err fault)) ≡ Some result }
     {
         match fault {
             WireErr::ShortHeader | WireErr::ShortData => Verdict::INVALID_COMMAND,

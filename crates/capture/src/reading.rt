@@ -1,8 +1,8 @@
 //! All frames of a capture.
 
-ghost use Rattle.std.specs.Prelude.{◌≡◌, ◌+◌, ◌*◌, ◌≤◌, [], ◌++◌, length, drop, IfOk, MatchResult};
+ghost use Rattle.std.specs.Prelude.{◌≡◌, ◌+◌, ◌*◌, ◌≤◌, [], ◌++◌, length, drop, IfOk, Err, MatchResult};
 ghost use Rattle.capture.specs.Records.{seen, with_front, records_of};
-ghost use Rattle.capture.specs.Captures.{Refuses, GivesFrames, capture_of};
+ghost use Rattle.capture.specs.Captures.{Refuses, GivesFrames, IsCaptureBad, capture_of};
 
 use crate::fault::{CaptureErr, FramesErr};
 use crate::frames::Frames;
@@ -14,7 +14,9 @@ use std::alloc::Global;
 /// their bytes, with 8 bytes for each frame.
 #[tactic(auto, using(crate::proofs::CaptureLemmas::captures))]
 pub fn read_frames(alloc: Global, bytes: &[u8]) -> Result<Frames, FramesErr>
-    ensures { GivesFrames result (capture_of bytes.now) }
+    ensures read { GivesFrames result (capture_of bytes.now) }
+    // A fault is told, whatever memory there is.
+    ensures bad { (fault : CaptureErr) → IsCaptureBad bytes.now fault → result ≡ Err (FramesErr.Bad fault) }
 {
     let header = read_header(bytes).map_err(FramesErr::Bad)?;
     let count = count_frames(bytes, &header).map_err(FramesErr::Bad)?;

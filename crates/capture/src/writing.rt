@@ -14,7 +14,7 @@ const HEADER: [u8; 24] = [
 /// Writes the header of a capture. The failure is the output's, and a front of the header was then written.
 #[tactic(auto, unfolding(crate::specs::Captures::header_text))]
 pub fn write_header<O: Out>(out: &mut O) -> Result<(), Failed>
-    ensures { Writes (O.told out.old) (O.told out.new) (O.faults out.old) (O.faults out.new) header_text result }
+    ensures { Writes (O.state out.old) (O.state out.new) header_text result }
 {
     out.put(&HEADER)
 }
@@ -23,7 +23,7 @@ pub fn write_header<O: Out>(out: &mut O) -> Result<(), Failed>
 /// failure is the output's, and a front of the record was then written.
 pub fn write_frame<O: Out>(out: &mut O, frame: &[u8]) -> Result<(), Failed>
     requires { length frame.now ≤ 262144 }
-    ensures { Writes (O.told out.old) (O.told out.new) (O.faults out.old) (O.faults out.new) (record_text frame.now) result }
+    ensures { Writes (O.state out.old) (O.state out.new) (record_text frame.now) result }
 {
     let head = record_head(frame.len() as u32);
     out.put(&head)?;

@@ -4,25 +4,21 @@ use Rattle.std.specs.Prelude.{is_some, IsSome, IsSomeAnd, fold}
 use Rattle.std.specs.Option.{option_map_or}
 use Rattle.std.specs.Ordering.{nat_cmp}
 use Rattle.std.specs.List.Sorted.{IsStrictlySortedBy}
-use Rattle.std.proofs.lemmas.Bool.{not-true}
+use Rattle.std.proofs.lemmas.Bool.{not-true, and_parts}
 use Rattle.std.proofs.lemmas.Bool.Decides.{nat_tests}
 use Rattle.std.proofs.lemmas.List.Elements.{All-head, All-tail, All-take}
 use Rattle.ff_headers.specs.SelectorParts.{SelectorParts}
 use Rattle.ff_headers.specs.RuleParts.{RuleParts}
 use Rattle.ff_headers.specs.Shapes.{HasShape}
 use Rattle.ff_headers.specs.Matching.{key_size}
-use Rattle.ff_headers.specs.Objects.{FlowObjects, no_objects, held, IsById, IsBacked, IsWellFormed}
-use Rattle.ff_headers.specs.Changes.{put, without, has_room, is_taken, is_backed, is_sound, changed, CarriesShape, step, after, names_classifier}
+use Rattle.ff_headers.specs.Objects.{FlowObjects, no_objects, object_under, IsById, IsBacked, IsWellFormed}
+use Rattle.ff_headers.specs.Changes.{put, without, has_room, is_priority_taken, is_backed, is_sound, with_change_made, CarriesShape, step, after, names_classifier}
 use Rattle.ff_headers.specs.declared.limits.Limits.{Limits}
 use Rattle.ff_headers.specs.declared.change.Change.{Change}
 use Rattle.ff_headers.specs.declared.change.Change.TheVariants.{PutGroup, DropGroup, PutClassifier, DropClassifier, PutRule, DropRule, Close}
-use Rattle.ff_headers.proofs.EntryLemmas.{held-put, IsById-put, length-put_le, length-put_held, held-without, IsById-without, length-without, fails_at_held}
+use Rattle.ff_headers.proofs.EntryLemmas.{object_under-put, IsById-put, length-put_le, length-put_held, object_under-without, IsById-without, length-without, fails_at_held}
 
 -- ---- tests
-
-and_parts : (a b : Bool) → (a && b) ≡ true → (a ≡ true) × (b ≡ true)
-and_parts true b h = (refl, h)
-and_parts false b h = absurd cc
 
 apart : (q id : ℕ) → q ≢ id → eqb q id ≡ false
 apart q id h = grind (arith, nat_tests)
@@ -38,33 +34,33 @@ no_ids = tt
 
 module _ {X : Type 0} where
   -- what a map holds once an object is put: the object under its id, or what it held before
-  found_after_put : (es : List (ℕ × X)) (id : ℕ) (x : X) (q : ℕ) (y : X) → held (put es id x) q ≡ Some y → ((q ≡ id) × (x ≡ y)) ⊎ ((q ≢ id) × (held es q ≡ Some y))
-  found_after_put es id x q y h = by_test (eqb q id) refl (sym (held-put es id x q) ∙ h) where
-    by_test : (b : Bool) → eqb q id ≡ b → cond b (Some x) (held es q) ≡ Some y → ((q ≡ id) × (x ≡ y)) ⊎ ((q ≢ id) × (held es q ≡ Some y))
+  found_after_put : (es : List (ℕ × X)) (id : ℕ) (x : X) (q : ℕ) (y : X) → object_under (put es id x) q ≡ Some y → ((q ≡ id) × (x ≡ y)) ⊎ ((q ≢ id) × (object_under es q ≡ Some y))
+  found_after_put es id x q y h = by_test (eqb q id) refl (sym (object_under-put es id x q) ∙ h) where
+    by_test : (b : Bool) → eqb q id ≡ b → cond b (Some x) (object_under es q) ≡ Some y → ((q ≡ id) × (x ≡ y)) ⊎ ((q ≢ id) × (object_under es q ≡ Some y))
     by_test true same is = let at : q ≡ id = grind (arith, nat_tests) in inl (at, cc)
     by_test false same is = let off : q ≢ id = (λ e. absurd (grind (arith, nat_tests))) in inr (off, is)
 
-  same_elsewhere : (es : List (ℕ × X)) (id : ℕ) (x : X) (q : ℕ) → q ≢ id → held (put es id x) q ≡ held es q
-  same_elsewhere es id x q off = held-put es id x q ∙ ap (λ b. cond b (Some x) (held es q)) (apart q id off)
+  same_elsewhere : (es : List (ℕ × X)) (id : ℕ) (x : X) (q : ℕ) → q ≢ id → object_under (put es id x) q ≡ object_under es q
+  same_elsewhere es id x q off = object_under-put es id x q ∙ ap (λ b. cond b (Some x) (object_under es q)) (apart q id off)
 
-  still_some : (es : List (ℕ × X)) (id : ℕ) (x : X) (q : ℕ) → IsSome (held es q) → IsSome (held (put es id x) q)
-  still_some es id x q h = by_test (eqb q id) (held-put es id x q) where
-    by_test : (b : Bool) → held (put es id x) q ≡ cond b (Some x) (held es q) → IsSome (held (put es id x) q)
+  still_some : (es : List (ℕ × X)) (id : ℕ) (x : X) (q : ℕ) → IsSome (object_under es q) → IsSome (object_under (put es id x) q)
+  still_some es id x q h = by_test (eqb q id) (object_under-put es id x q) where
+    by_test : (b : Bool) → object_under (put es id x) q ≡ cond b (Some x) (object_under es q) → IsSome (object_under (put es id x) q)
     by_test true e = ap is_some e
     by_test false e = ap is_some e ∙ h
 
-  found_after_drop : (es : List (ℕ × X)) (id q : ℕ) (y : X) → IsById es → held (without es id) q ≡ Some y → held es q ≡ Some y
-  found_after_drop es id q y sorted h = by_test (eqb id q) (sym (held-without es id q sorted) ∙ h) where
-    by_test : (b : Bool) → cond b None (held es q) ≡ Some y → held es q ≡ Some y
+  found_after_drop : (es : List (ℕ × X)) (id q : ℕ) (y : X) → IsById es → object_under (without es id) q ≡ Some y → object_under es q ≡ Some y
+  found_after_drop es id q y sorted h = by_test (eqb id q) (sym (object_under-without es id q sorted) ∙ h) where
+    by_test : (b : Bool) → cond b None (object_under es q) ≡ Some y → object_under es q ≡ Some y
     by_test true is = absurd cc
     by_test false is = is
 
-  same_after_drop : (es : List (ℕ × X)) (id q : ℕ) → IsById es → q ≢ id → held (without es id) q ≡ held es q
-  same_after_drop es id q sorted off = held-without es id q sorted ∙ ap (λ b. cond b None (held es q)) (apart id q (λ e. off (sym e)))
+  same_after_drop : (es : List (ℕ × X)) (id q : ℕ) → IsById es → q ≢ id → object_under (without es id) q ≡ object_under es q
+  same_after_drop es id q sorted off = object_under-without es id q sorted ∙ ap (λ b. cond b None (object_under es q)) (apart id q (λ e. off (sym e)))
 
   fits_after_put : (es : List (ℕ × X)) (id : ℕ) (x : X) (limit : ℕ) → IsById es → has_room es id limit ≡ true → length es ≤ limit → length (put es id x) ≤ limit
-  fits_after_put es id x limit sorted room fit = by_test (is_some (held es id)) refl room where
-    by_test : (b : Bool) → is_some (held es id) ≡ b → (b || ltb (length es) limit) ≡ true → length (put es id x) ≤ limit
+  fits_after_put es id x limit sorted room fit = by_test (is_some (object_under es id)) refl room where
+    by_test : (b : Bool) → is_some (object_under es id) ≡ b → (b || ltb (length es) limit) ≡ true → length (put es id x) ≤ limit
     by_test true has r = let same = length-put_held es id x sorted has in omega arith
     by_test false has r =
         let below : length es < limit = grind (arith, nat_tests) in
@@ -80,7 +76,7 @@ module _ {X : Type 0} where
 backed_from_test : (objects : FlowObjects) (rule : RuleParts) → is_backed objects rule ≡ true → IsBacked objects rule
 backed_from_test objects rule h =
     let p = and_parts _ _ h in
-    record { group_held = p.0; key_fits = key_from_test (held objects.classifiers rule.classifier) p.1 } where
+    record { group_held = p.0; key_fits = key_from_test (object_under objects.classifiers rule.classifier) p.1 } where
       key_from_test : (o : Option (List SelectorParts)) → option_map_or (λ selectors. eqb (length rule.key) (key_size selectors)) o false ≡ true → IsSomeAnd o (λ selectors. length rule.key ≡ key_size selectors)
       key_from_test None e = absurd cc
       key_from_test (Some selectors) e = grind (arith, nat_tests)
@@ -92,19 +88,19 @@ same_classifier rule o p e h = rw e h
 
 module _ (limits : Limits) (objects : FlowObjects) (was : IsWellFormed limits objects) where
   -- a rule isn't backed by a classifier that isn't held
-  none_backs : {id : ℕ} (rule : RuleParts) → held objects.classifiers id ≡ None → rule.classifier ≡ id → IsBacked objects rule → ⊥
+  none_backs : {id : ℕ} (rule : RuleParts) → object_under objects.classifiers id ≡ None → rule.classifier ≡ id → IsBacked objects rule → ⊥
   none_backs {id} rule none e b =
-      let at : held objects.classifiers rule.classifier ≡ None = ap (held objects.classifiers) e ∙ none in
+      let at : object_under objects.classifiers rule.classifier ≡ None = ap (object_under objects.classifiers) e ∙ none in
       rw at at b.key_fits
 
   -- no other group has the priority of one that is put
-  priority_free : (id priority other : ℕ) → is_taken objects id priority ≡ false → other ≢ id → held objects.groups other ≡ Some priority → ⊥
+  priority_free : (id priority other : ℕ) → is_priority_taken objects id priority ≡ false → other ≢ id → object_under objects.groups other ≡ Some priority → ⊥
   priority_free id priority other free off h =
       let fails = fails_at_held (λ (e : ℕ × ℕ). not (eqb e.0 id) && eqb e.1 priority) objects.groups other priority free h in
       absurd (grind (arith, nat_tests))
 
-  put_group : (id priority : ℕ) → is_sound limits objects (PutGroup id priority) ≡ true → IsWellFormed limits (changed objects (PutGroup id priority))
-  unfolding is_sound changed
+  put_group : (id priority : ℕ) → is_sound limits objects (PutGroup id priority) ≡ true → IsWellFormed limits (with_change_made objects (PutGroup id priority))
+  unfolding is_sound with_change_made
   put_group id priority sound =
       let p = and_parts _ _ sound in
       let free = not-true _ p.1 in
@@ -126,8 +122,8 @@ module _ (limits : Limits) (objects : FlowObjects) (was : IsWellFormed limits ob
         ];
       }
 
-  drop_group : (id : ℕ) → is_sound limits objects (DropGroup id) ≡ true → IsWellFormed limits (changed objects (DropGroup id))
-  unfolding is_sound changed
+  drop_group : (id : ℕ) → is_sound limits objects (DropGroup id) ≡ true → IsWellFormed limits (with_change_made objects (DropGroup id))
+  unfolding is_sound with_change_made
   drop_group id sound =
       let unnamed = not-true _ sound in
       let sorted = was.by_id.groups_rise in
@@ -143,14 +139,14 @@ module _ (limits : Limits) (objects : FlowObjects) (was : IsWellFormed limits ob
       }
 
   -- no rule names a classifier that is put, and there is room for it
-  classifier_free : (id : ℕ) → cond (is_some (held objects.classifiers id)) (not (names_classifier objects id)) (ltb (length objects.classifiers) limits.classifiers) ≡ true → (has_room objects.classifiers id limits.classifiers ≡ true) × ((q : ℕ) (rule : RuleParts) → held objects.rules q ≡ Some rule → rule.classifier ≢ id)
-  classifier_free id sound = by_held (held objects.classifiers id) refl sound where
-    by_held : (o : Option (List SelectorParts)) → held objects.classifiers id ≡ o → cond (is_some o) (not (names_classifier objects id)) (ltb (length objects.classifiers) limits.classifiers) ≡ true → ((is_some o || ltb (length objects.classifiers) limits.classifiers) ≡ true) × ((q : ℕ) (rule : RuleParts) → held objects.rules q ≡ Some rule → rule.classifier ≢ id)
+  classifier_free : (id : ℕ) → cond (is_some (object_under objects.classifiers id)) (not (names_classifier objects id)) (ltb (length objects.classifiers) limits.classifiers) ≡ true → (has_room objects.classifiers id limits.classifiers ≡ true) × ((q : ℕ) (rule : RuleParts) → object_under objects.rules q ≡ Some rule → rule.classifier ≢ id)
+  classifier_free id sound = by_held (object_under objects.classifiers id) refl sound where
+    by_held : (o : Option (List SelectorParts)) → object_under objects.classifiers id ≡ o → cond (is_some o) (not (names_classifier objects id)) (ltb (length objects.classifiers) limits.classifiers) ≡ true → ((is_some o || ltb (length objects.classifiers) limits.classifiers) ≡ true) × ((q : ℕ) (rule : RuleParts) → object_under objects.rules q ≡ Some rule → rule.classifier ≢ id)
     by_held None none room = (room, λ q rule h e. none_backs rule none e (was.backed q rule h))
     by_held (Some s) some unnamed = (refl, λ q rule h. differs _ _ (fails_at_held (λ (e : ℕ × RuleParts). eqb e.1.classifier id) objects.rules q rule (not-true _ unnamed) h))
 
-  put_classifier : (id : ℕ) (selectors : List SelectorParts) → HasShape selectors → is_sound limits objects (PutClassifier id selectors) ≡ true → IsWellFormed limits (changed objects (PutClassifier id selectors))
-  unfolding is_sound changed
+  put_classifier : (id : ℕ) (selectors : List SelectorParts) → HasShape selectors → is_sound limits objects (PutClassifier id selectors) ≡ true → IsWellFormed limits (with_change_made objects (PutClassifier id selectors))
+  unfolding is_sound with_change_made
   put_classifier id selectors shape sound =
       let p = classifier_free id sound in
       let sorted = was.by_id.classifiers_rise in
@@ -167,8 +163,8 @@ module _ (limits : Limits) (objects : FlowObjects) (was : IsWellFormed limits ob
         one_priority = was.one_priority;
       }
 
-  drop_classifier : (id : ℕ) → is_sound limits objects (DropClassifier id) ≡ true → IsWellFormed limits (changed objects (DropClassifier id))
-  unfolding is_sound changed
+  drop_classifier : (id : ℕ) → is_sound limits objects (DropClassifier id) ≡ true → IsWellFormed limits (with_change_made objects (DropClassifier id))
+  unfolding is_sound with_change_made
   drop_classifier id sound =
       let unnamed = not-true _ sound in
       let sorted = was.by_id.classifiers_rise in
@@ -183,8 +179,8 @@ module _ (limits : Limits) (objects : FlowObjects) (was : IsWellFormed limits ob
         one_priority = was.one_priority;
       }
 
-  put_rule : (id : ℕ) (rule : RuleParts) → is_sound limits objects (PutRule id rule) ≡ true → IsWellFormed limits (changed objects (PutRule id rule))
-  unfolding is_sound changed
+  put_rule : (id : ℕ) (rule : RuleParts) → is_sound limits objects (PutRule id rule) ≡ true → IsWellFormed limits (with_change_made objects (PutRule id rule))
+  unfolding is_sound with_change_made
   put_rule id rule sound =
       let p = and_parts _ _ sound in
       let backed = backed_from_test objects rule p.0 in
@@ -200,8 +196,8 @@ module _ (limits : Limits) (objects : FlowObjects) (was : IsWellFormed limits ob
         one_priority = was.one_priority;
       }
 
-  drop_rule : (id : ℕ) → IsWellFormed limits (changed objects (DropRule id))
-  unfolding changed
+  drop_rule : (id : ℕ) → IsWellFormed limits (with_change_made objects (DropRule id))
+  unfolding with_change_made
   drop_rule id =
       let sorted = was.by_id.rules_rise in
       record {
@@ -216,7 +212,7 @@ module _ (limits : Limits) (objects : FlowObjects) (was : IsWellFormed limits ob
   unfolding is_sound
   close_unsound h = cc
 
-  sound_keeps : (change : Change) → CarriesShape change → is_sound limits objects change ≡ true → IsWellFormed limits (changed objects change)
+  sound_keeps : (change : Change) → CarriesShape change → is_sound limits objects change ≡ true → IsWellFormed limits (with_change_made objects change)
   sound_keeps (PutGroup id priority) shape sound = put_group id priority sound
   sound_keeps (DropGroup id) shape sound = drop_group id sound
   sound_keeps (PutClassifier id selectors) shape sound = put_classifier id selectors shape sound
@@ -228,7 +224,7 @@ module _ (limits : Limits) (objects : FlowObjects) (was : IsWellFormed limits ob
   pub step_keeps : (change : Change) → CarriesShape change → IsWellFormed limits (step limits objects change)
   unfolding step
   step_keeps change shape = by_test (is_sound limits objects change) (sound_keeps change shape) where
-    by_test : (b : Bool) → (b ≡ true → IsWellFormed limits (changed objects change)) → IsWellFormed limits (cond b (changed objects change) objects)
+    by_test : (b : Bool) → (b ≡ true → IsWellFormed limits (with_change_made objects change)) → IsWellFormed limits (cond b (with_change_made objects change) objects)
     by_test true kept = kept refl
     by_test false kept = was
 

@@ -17,7 +17,7 @@ use Rattle.std.proofs.lemmas.List.Folds.{list_any_at}
 use Rattle.std.proofs.lemmas.Map.{lookup-none, lookup-remove_entry}
 use Rattle.std.proofs.lemmas.Map.Keys.{sorted_head, sorted_tail, IsDistinct-from_sorted}
 use Rattle.std.proofs.lemmas.Map.Views.{All-keys-insert_entry, All-map-remove_entry}
-use Rattle.ff_headers.specs.Objects.{held, IsById}
+use Rattle.ff_headers.specs.Objects.{object_under, IsById}
 use Rattle.ff_headers.specs.Changes.{put, without}
 
 is_at-nat : (id key : ℕ) → is_at (nat_cmp id) key ≡ eqb id key
@@ -30,7 +30,7 @@ ordering_cases m n x y z = by (ltb m n) (eqb m n) where
   by false true = refl
   by false false = refl
 
-less_from : (a b : ℕ) → a < b → nat_cmp a b ≡ Less
+pub less_from : (a b : ℕ) → a < b → nat_cmp a b ≡ Less
 less_from a b h = grind (arith, nat_tests)
 
 less_trans : (a b c : ℕ) → a < b → nat_cmp b c ≡ Less → a < c
@@ -44,8 +44,8 @@ same_test id x y h =
     grind (arith, nat_tests)
 
 module _ {X : Type 0} where
-  pub held-cons : (key : ℕ) (value : X) (es : List (ℕ × X)) (id : ℕ) → held ((key, value) ∷ es) id ≡ cond (eqb id key) (Some value) (held es id)
-  held-cons key value es id = ap (λ b. cond b (Some value) (held es id)) (is_at-nat id key)
+  pub object_under-cons : (key : ℕ) (value : X) (es : List (ℕ × X)) (id : ℕ) → object_under ((key, value) ∷ es) id ≡ cond (eqb id key) (Some value) (object_under es id)
+  object_under-cons key value es id = ap (λ b. cond b (Some value) (object_under es id)) (is_at-nat id key)
 
   pub put-cons : (key : ℕ) (value : X) (es : List (ℕ × X)) (id : ℕ) (x : X) → put ((key, value) ∷ es) id x ≡ cond (ltb id key) ((id, x) ∷ (key, value) ∷ es) (cond (eqb id key) ((key, x) ∷ es) ((key, value) ∷ put es id x))
   put-cons key value es id x = ordering_cases id key ((id, x) ∷ (key, value) ∷ es) ((key, x) ∷ es) ((key, value) ∷ put es id x)
@@ -54,7 +54,7 @@ module _ {X : Type 0} where
   without-cons key value es id = ap (λ b. cond b es ((key, value) ∷ without es id)) (is_at-nat id key)
 
   -- an entry of the list is held, and one that is held is in the list
-  pub held_from_entry : (es : List (ℕ × X)) (entry : ℕ × X) → IsById es → Contains es entry → held es entry.0 ≡ Some entry.1
+  pub held_from_entry : (es : List (ℕ × X)) (entry : ℕ × X) → IsById es → Contains es entry → object_under es entry.0 ≡ Some entry.1
   held_from_entry es entry sorted has =
       let laws = eq_by_cmp_equiv nat_cmp_total in
       let apart = IsDistinct-from_sorted nat_cmp (keys_of es) sorted in
@@ -63,10 +63,10 @@ module _ {X : Type 0} where
   pair_eq : {a b : ℕ} {x y : X} → a ≡ b → x ≡ y → let p : ℕ × X = (a, x) in let q : ℕ × X = (b, y) in p ≡ q
   pair_eq e f = cc
 
-  pub entry_from_held : (es : List (ℕ × X)) (id : ℕ) (x : X) → held es id ≡ Some x → Contains es (id, x)
+  pub entry_from_held : (es : List (ℕ × X)) (id : ℕ) (x : X) → object_under es id ≡ Some x → Contains es (id, x)
   entry_from_held [] id x h = absurd cc
-  entry_from_held (e ∷ es) id x h = found (eqb id e.0) refl (sym (held-cons e.0 e.1 es id) ∙ h) (entry_from_held es id x) where
-    found : (b : Bool) → eqb id e.0 ≡ b → cond b (Some e.1) (held es id) ≡ Some x → (held es id ≡ Some x → Contains es (id, x)) → Contains (e ∷ es) (id, x)
+  entry_from_held (e ∷ es) id x h = found (eqb id e.0) refl (sym (object_under-cons e.0 e.1 es id) ∙ h) (entry_from_held es id x) where
+    found : (b : Bool) → eqb id e.0 ≡ b → cond b (Some e.1) (object_under es id) ≡ Some x → (object_under es id ≡ Some x → Contains es (id, x)) → Contains (e ∷ es) (id, x)
     found true same is later =
         let key : id ≡ e.0 = grind (arith, nat_tests) in
         (0, omega arith, pair_eq (sym key) cc)
@@ -74,19 +74,19 @@ module _ {X : Type 0} where
 
   -- ---- an entry that is set
 
-  held-put_step : (key : ℕ) (value : X) (es : List (ℕ × X)) (id : ℕ) (x : X) (q : ℕ) → held (put es id x) q ≡ cond (eqb q id) (Some x) (held es q) → held (put ((key, value) ∷ es) id x) q ≡ cond (eqb q id) (Some x) (held ((key, value) ∷ es) q)
-  held-put_step key value es id x q later =
+  object_under-put_step : (key : ℕ) (value : X) (es : List (ℕ × X)) (id : ℕ) (x : X) (q : ℕ) → object_under (put es id x) q ≡ cond (eqb q id) (Some x) (object_under es q) → object_under (put ((key, value) ∷ es) id x) q ≡ cond (eqb q id) (Some x) (object_under ((key, value) ∷ es) q)
+  object_under-put_step key value es id x q later =
       let p = put-cons key value es id x in
-      let a = held-cons id x ((key, value) ∷ es) q in
-      let b = held-cons key x es q in
-      let c = held-cons key value (put es id x) q in
-      let d = held-cons key value es q in
+      let a = object_under-cons id x ((key, value) ∷ es) q in
+      let b = object_under-cons key x es q in
+      let c = object_under-cons key value (put es id x) q in
+      let d = object_under-cons key value es q in
       grind (arith, nat_tests)
 
   -- what is held once an object is put
-  pub held-put : (es : List (ℕ × X)) (id : ℕ) (x : X) (q : ℕ) → held (put es id x) q ≡ cond (eqb q id) (Some x) (held es q)
-  held-put [] id x q = held-cons id x [] q
-  held-put (e ∷ es) id x q = held-put_step e.0 e.1 es id x q (held-put es id x q)
+  pub object_under-put : (es : List (ℕ × X)) (id : ℕ) (x : X) (q : ℕ) → object_under (put es id x) q ≡ cond (eqb q id) (Some x) (object_under es q)
+  object_under-put [] id x q = object_under-cons id x [] q
+  object_under-put (e ∷ es) id x q = object_under-put_step e.0 e.1 es id x q (object_under-put es id x q)
 
   -- each id of the entries is above a number
   abbrev AllAbove : ℕ → List (ℕ × X) → Type 0
@@ -123,24 +123,24 @@ module _ {X : Type 0} where
     by_place false true later = omega arith
     by_place false false later = omega arith
 
-  pub length-put_held : (es : List (ℕ × X)) (id : ℕ) (x : X) → IsById es → is_some (held es id) ≡ true → length (put es id x) ≡ length es
+  pub length-put_held : (es : List (ℕ × X)) (id : ℕ) (x : X) → IsById es → is_some (object_under es id) ≡ true → length (put es id x) ≡ length es
   length-put_held [] id x sorted has = absurd cc
   length-put_held (e ∷ es) id x sorted has = ap length (put-cons e.0 e.1 es id x) ∙ by_place (ltb id e.0) (eqb id e.0) refl refl (length-put_held es id x (sorted_tail nat_cmp e.0 (keys_of es) sorted)) where
-    by_place : (b c : Bool) → ltb id e.0 ≡ b → eqb id e.0 ≡ c → (is_some (held es id) ≡ true → length (put es id x) ≡ length es) → length (cond b ((id, x) ∷ e ∷ es) (cond c ((e.0, x) ∷ es) (e ∷ put es id x))) ≡ suc (length es)
+    by_place : (b c : Bool) → ltb id e.0 ≡ b → eqb id e.0 ≡ c → (is_some (object_under es id) ≡ true → length (put es id x) ≡ length es) → length (cond b ((id, x) ∷ e ∷ es) (cond c ((e.0, x) ∷ es) (e ∷ put es id x))) ≡ suc (length es)
     by_place true c lt same later =
         let below : id < e.0 = grind (arith, nat_tests) in
         let none = lookup-none (is_at (nat_cmp id)) (e ∷ es) (none_below_head nat_cmp_total id e es sorted (less_from id e.0 below)) in
         absurd cc
     by_place false true lt same later = refl
     by_place false false lt same later =
-        let off : held (e ∷ es) id ≡ held es id = held-cons e.0 e.1 es id ∙ ap (λ b. cond b (Some e.1) (held es id)) same in
+        let off : object_under (e ∷ es) id ≡ object_under es id = object_under-cons e.0 e.1 es id ∙ ap (λ b. cond b (Some e.1) (object_under es id)) same in
         ap suc (later (sym (ap is_some off) ∙ has))
 
   -- ---- an entry that is removed
 
-  pub held-without : (es : List (ℕ × X)) (id q : ℕ) → IsById es → held (without es id) q ≡ cond (eqb id q) None (held es q)
-  held-without es id q sorted =
-      lookup-remove_entry (eq_by_cmp_equiv nat_cmp_total) (is_at (nat_cmp id)) (λ x y e. same_test id x y e) q es (IsDistinct-from_sorted nat_cmp (keys_of es) sorted) ∙ ap (λ b. cond b None (held es q)) (is_at-nat id q)
+  pub object_under-without : (es : List (ℕ × X)) (id q : ℕ) → IsById es → object_under (without es id) q ≡ cond (eqb id q) None (object_under es q)
+  object_under-without es id q sorted =
+      lookup-remove_entry (eq_by_cmp_equiv nat_cmp_total) (is_at (nat_cmp id)) (λ x y e. same_test id x y e) q es (IsDistinct-from_sorted nat_cmp (keys_of es) sorted) ∙ ap (λ b. cond b None (object_under es q)) (is_at-nat id q)
 
   pub IsById-without : (es : List (ℕ × X)) (id : ℕ) → IsById es → IsById (without es id)
   IsById-without [] id sorted = sorted
@@ -159,7 +159,7 @@ module _ {X : Type 0} where
   -- ---- tests of all entries
 
   -- a test that no entry passes fails at each object that is held
-  pub fails_at_held : (p : ℕ × X → Bool) (es : List (ℕ × X)) (id : ℕ) (x : X) → list_any p es ≡ false → held es id ≡ Some x → p (id, x) ≡ false
+  pub fails_at_held : (p : ℕ × X → Bool) (es : List (ℕ × X)) (id : ℕ) (x : X) → list_any p es ≡ false → object_under es id ≡ Some x → p (id, x) ≡ false
   fails_at_held p es id x none h = by_test (p (id, x)) refl where
     by_test : (b : Bool) → p (id, x) ≡ b → p (id, x) ≡ false
     by_test true e =

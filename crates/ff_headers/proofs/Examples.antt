@@ -9,7 +9,7 @@ use Rattle.ff_headers.specs.Frames.{headers_of}
 use Rattle.ff_headers.specs.Matching.{fits, matches, key_size, parts_of}
 use Rattle.ff_headers.specs.Objects.{FlowObjects}
 use Rattle.ff_headers.specs.Places.{rule_matches, first_rule, action_of}
-use Rattle.ff_headers.specs.Changes.{is_sound, changed, step, after, change_count, saturated}
+use Rattle.ff_headers.specs.Changes.{is_sound, with_change_made, step, after, change_count, saturated}
 use Rattle.ff_headers.specs.declared.kind.Kind.{Kind}
 use Rattle.ff_headers.specs.declared.kind.Kind.TheVariants.{Eth, Ipv4, Ipv6, Tcp, Udp}
 use Rattle.ff_headers.specs.declared.limits.Limits.{Limits}
@@ -226,11 +226,11 @@ history : List Change
 history = PutGroup 1 9 ∷ PutGroup 2 9 ∷ PutClassifier 1 (by_type ∷ []) ∷ PutRule 5 (queue_rule 1 0 2) ∷ DropGroup 1 ∷ DropRule 5 ∷ DropGroup 1 ∷ Close ∷ []
 
 unsound_left_out : after limits history 5 ≡ record { groups = (1, 9) ∷ []; classifiers = (1, by_type ∷ []) ∷ []; rules = (5, queue_rule 1 0 2) ∷ [] }
-unfolding after step is_sound changed limits history queue_rule by_type ip_key
+unfolding after step is_sound with_change_made limits history queue_rule by_type ip_key
 unsound_left_out = refl
 
 dropped : after limits history 8 ≡ record { groups = []; classifiers = (1, by_type ∷ []) ∷ []; rules = [] }
-unfolding after step is_sound changed limits history queue_rule by_type ip_key
+unfolding after step is_sound with_change_made limits history queue_rule by_type ip_key
 dropped = refl
 
 close_is_no_change : change_count history ≡ 7

@@ -15,9 +15,6 @@ use Rattle.ff_headers.specs.Matching.{masked, SameUnder, fits, PartFits, matches
 
 -- ---- bytes under a mask
 
-both : ℕ × ℕ → ℕ
-both p = bit_and p.0 p.1
-
 masked_at : (mask bytes : List ℕ) (j : ℕ) → length bytes ≡ length mask → j < length mask → get_or (masked mask bytes) j 0 ≡ bit_and (get_or bytes j 0) (get_or mask j 0)
 masked_at mask bytes j same inside =
     let long = length-zip bytes mask in

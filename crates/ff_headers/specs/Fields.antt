@@ -1,6 +1,6 @@
--- The fields of a header as numbers, and which mask a capability allows. Where the fields lie is IEEE 802.3, RFC 791, RFC 8200,
--- RFC 9293 and RFC 768; the flag PARTIAL_MASK is the Virtio 1.4 draft's (flow filter selector capability); which masks
--- are allowed is this project's own.
+-- The fields of a header as numbers, and which mask a capability allows. Where the fields lie is IEEE 802.3, RFC 791,
+-- RFC 8200, RFC 9293 and RFC 768; the flag PARTIAL_MASK is the Virtio 1.4 draft's (flow filter selector capability);
+-- which masks are allowed is this project's own.
 use Rattle.std.specs.Prelude.{◌≡◌, ℕ, ◌+◌, ◌-◌, ◌*◌, ◌/◌, ◌%◌, ◌^◌, ◌<◌, ◌≤◌, ◌==◌, ◌||◌, ◌⊎◌, Bool, if◌then◌else◌, List, [], ◌∷◌, length, slice_index, bit_and, All}
 use Rattle.std.specs.List.{list_all, zip}
 use Rattle.ff_headers.specs.SelectorParts.{SelectorParts}
@@ -29,8 +29,8 @@ value_at f header = bits_at f.first f.bits header
 abbrev pub fields_of : Kind → List Field
 -- destination, source, type
 fields_of Eth = field 0 48 ∷ field 48 48 ∷ field 96 16 ∷ []
--- version, header length, type of service, total length, identification, flags, fragment offset, time to live, protocol,
--- checksum, source, destination
+-- version, header length, type of service, total length, identification, flags, fragment offset, time to live,
+-- protocol, checksum, source, destination
 fields_of Ipv4 =
     field 0 4 ∷ field 4 4 ∷ field 8 8 ∷ field 16 16 ∷ field 32 16 ∷ field 48 3 ∷ field 51 13 ∷ field 64 8 ∷ field 72 8
     ∷ field 80 16 ∷ field 96 32 ∷ field 128 32 ∷ []
@@ -45,7 +45,8 @@ fields_of Tcp =
 -- source port, destination port, length, checksum
 fields_of Udp = field 0 16 ∷ field 16 16 ∷ field 32 16 ∷ field 48 16 ∷ []
 
--- a field lies within a header of so many bytes, and in 16 of them
+-- a field lies within a header of so many bytes, and touches at most 16 of them, so that its number has at most 128
+-- bits
 pub record LiesWithin (size : ℕ) (f : Field) : Type 0 where
   pub inside : f.first + f.bits ≤ 8 * size
   pub short : f.first % 8 + f.bits ≤ 128

@@ -14,7 +14,8 @@ pub record HeaderBytes : Type 0 where
   pub udp : Option (List ℕ)
 
 -- the headers with these bytes
-abbrev pub header_bytes : Option (List ℕ) → Option (List ℕ) → Option (List ℕ) → Option (List ℕ) → Option (List ℕ) → HeaderBytes
+abbrev pub header_bytes :
+    Option (List ℕ) → Option (List ℕ) → Option (List ℕ) → Option (List ℕ) → Option (List ℕ) → HeaderBytes
 header_bytes e v4 v6 t u = record { eth = e; ipv4 = v4; ipv6 = v6; tcp = t; udp = u }
 
 -- the header of a kind, where it is held

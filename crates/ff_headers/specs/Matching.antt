@@ -1,5 +1,5 @@
--- When a header fits a selector, and when a list of selectors with a key matches a frame's headers. The selectors and keys
--- are those of the Virtio 1.4 draft's flow filter; that both sides are masked is this project's own.
+-- When a header fits a selector, and when a list of selectors with a key matches a frame's headers. The selectors and
+-- keys are those of the Virtio 1.4 draft's flow filter; that both sides are masked is this project's own.
 use Rattle.std.specs.Prelude.{◌≡◌, ℕ, ◌<◌, Bool, false, List, [], ◌∷◌, map, take, drop, length, slice_index, bit_and, nat_eq, IsSomeAnd, sum_by}
 use Rattle.std.specs.List.{AllZip, zip, list_all}
 use Rattle.std.specs.Option.{option_map_or}
@@ -26,7 +26,8 @@ SameUnder mask value part =
 
 -- the header is there and equals the key's part under the mask
 abbrev pub PartFits : SelectorParts → List ℕ → HeaderBytes → Type 0
-PartFits selector part headers = IsSomeAnd (header_at headers selector.kind) (λ value. SameUnder selector.mask value part)
+PartFits selector part headers =
+    IsSomeAnd (header_at headers selector.kind) (λ value. SameUnder selector.mask value part)
 
 -- the bytes of a key for the selectors: the sum of the headers' sizes
 abbrev pub key_size : List SelectorParts → ℕ

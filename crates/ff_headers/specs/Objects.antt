@@ -1,5 +1,5 @@
--- The objects of the flow filters (Virtio 1.4 draft, resource objects): groups, classifiers and rules by id, and when they
--- are well formed. That no two groups share a priority is this project's own.
+-- The objects of the flow filters (Virtio 1.4 draft, resource objects): groups, classifiers and rules by id, and when
+-- they are well formed. That no two groups share a priority is this project's own.
 use Rattle.std.specs.Prelude.{◌≡◌, ℕ, ◌≤◌, List, [], length, Option, Some, IsSome, IsSomeAnd}
 use Rattle.std.specs.Map.{lookup, keys_of}
 use Rattle.std.specs.Ordering.{nat_cmp}
@@ -22,8 +22,8 @@ abbrev pub no_objects : FlowObjects
 no_objects = record { groups = []; classifiers = []; rules = [] }
 
 -- the object that is held under an id
-abbrev pub held : {X : Type 0} → List (ℕ × X) → ℕ → Option X
-held entries id = lookup (is_at (nat_cmp id)) entries
+abbrev pub object_under : {X : Type 0} → List (ℕ × X) → ℕ → Option X
+object_under entries id = lookup (is_at (nat_cmp id)) entries
 
 -- the ids rise strictly
 abbrev pub IsById : {X : Type 0} → List (ℕ × X) → Type 0
@@ -31,8 +31,9 @@ IsById entries = IsStrictlySortedBy nat_cmp (keys_of entries)
 
 -- the rule's group and classifier are held, and its key has the classifier's key size
 pub record IsBacked (objects : FlowObjects) (rule : RuleParts) : Type 0 where
-  pub group_held : IsSome (held objects.groups rule.group)
-  pub key_fits : IsSomeAnd (held objects.classifiers rule.classifier) (λ selectors. length rule.key ≡ key_size selectors)
+  pub group_held : IsSome (object_under objects.groups rule.group)
+  pub key_fits :
+      IsSomeAnd (object_under objects.classifiers rule.classifier) (λ selectors. length rule.key ≡ key_size selectors)
 
 -- no map has more objects than its limit
 pub record IsWithin (limits : Limits) (objects : FlowObjects) : Type 0 where
@@ -50,8 +51,8 @@ pub record AreById (objects : FlowObjects) : Type 0 where
 pub record IsWellFormed (limits : Limits) (objects : FlowObjects) : Type 0 where
   pub by_id : AreById objects
   pub within : IsWithin limits objects
-  pub backed : (id : ℕ) (rule : RuleParts) → held objects.rules id ≡ Some rule → IsBacked objects rule
+  pub backed : (id : ℕ) (rule : RuleParts) → object_under objects.rules id ≡ Some rule → IsBacked objects rule
   pub shaped : (id : ℕ) (selectors : List SelectorParts)
-      → held objects.classifiers id ≡ Some selectors → HasShape selectors
+      → object_under objects.classifiers id ≡ Some selectors → HasShape selectors
   pub one_priority : (a b priority : ℕ)
-      → held objects.groups a ≡ Some priority → held objects.groups b ≡ Some priority → a ≡ b
+      → object_under objects.groups a ≡ Some priority → object_under objects.groups b ≡ Some priority → a ≡ b

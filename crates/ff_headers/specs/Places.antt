@@ -1,5 +1,5 @@
--- The order of rules, and the first rule that matches. The priorities are those of the Virtio 1.4 draft's flow filter; that
--- the smaller number comes first, and the order by id, are this project's own.
+-- The order of rules, and the first rule that matches. The priorities are those of the Virtio 1.4 draft's flow
+-- filter; that the smaller number comes first, and the order by id, are this project's own.
 use Rattle.std.specs.Prelude.{◌≡◌, ℕ, ◌/◌, Bool, false, List, [], ◌∷◌, filter, Option, Some, None, IsTrue, unwrap_or}
 use Rattle.std.specs.List.{best_of}
 use Rattle.std.specs.Option.{option_map_or}
@@ -8,7 +8,7 @@ use Rattle.std.specs.declared.cmp.Ordering.{Ordering}
 use Rattle.ff_headers.specs.RuleParts.{RuleParts}
 use Rattle.ff_headers.specs.Frames.{HeaderBytes}
 use Rattle.ff_headers.specs.Matching.{matches}
-use Rattle.ff_headers.specs.Objects.{FlowObjects, held}
+use Rattle.ff_headers.specs.Objects.{FlowObjects, object_under}
 use Rattle.ff_headers.specs.declared.rule.RuleAction.{RuleAction}
 use Rattle.ff_headers.specs.declared.rule.RuleAction.TheVariants as rule_action
 use Rattle.ff_headers.specs.declared.rule.Action.{Action}
@@ -25,7 +25,7 @@ Place = ℕ × ℕ × ℕ
 -- the place of a rule; a group that isn't held counts as priority 0
 abbrev pub place_of : FlowObjects → RuleEntry → Place
 place_of objects entry =
-    (unwrap_or (held objects.groups entry.1.group) 0, entry.1.priority, entry.0)
+    (unwrap_or (object_under objects.groups entry.1.group) 0, entry.1.priority, entry.0)
 
 -- places are ordered by their first difference
 abbrev pub place_cmp : Place → Place → Ordering
@@ -38,11 +38,11 @@ is_before objects a b = is_lt (place_cmp (place_of objects a) (place_of objects 
 -- whether the rule's classifier is held and, with the rule's key, matches the headers
 unfoldable pub rule_matches : FlowObjects → HeaderBytes → RuleParts → Bool
 rule_matches objects headers rule =
-    option_map_or (λ selectors. matches selectors rule.key headers) (held objects.classifiers rule.classifier) false
+    option_map_or (λ selectors. matches selectors rule.key headers) (object_under objects.classifiers rule.classifier) false
 
 -- the rule is held under the id, and matches the headers
 pub record IsMatching (objects : FlowObjects) (headers : HeaderBytes) (entry : RuleEntry) : Type 0 where
-  pub is_held : held objects.rules entry.0 ≡ Some entry.1
+  pub is_held : object_under objects.rules entry.0 ≡ Some entry.1
   pub fits_headers : IsTrue (rule_matches objects headers entry.1)
 
 -- a rule that matches, where no rule that matches has a lesser place
@@ -63,12 +63,13 @@ least_rule objects (entry ∷ entries) = Some (best_of (is_before objects) entry
 unfoldable pub first_rule : FlowObjects → HeaderBytes → Option RuleEntry
 first_rule objects headers = least_rule objects (matching_rules objects headers)
 
--- what a rule of the action and virtqueue index does with a frame: an even index names the receive queue of half its number
--- (Virtio 1.4 draft, network device, virtqueues)
+-- what a rule of the action and virtqueue index does with a frame: an even index names the receive queue of half its
+-- number (Virtio 1.4 draft, network device, virtqueues)
 abbrev pub action_with : RuleAction → ℕ → Action
 action_with rule_action.Drop vq = action.Drop
 action_with rule_action.Queue vq = action.Queue (vq / 2)
 
 -- what happens to a frame with these headers
 unfoldable pub action_of : FlowObjects → HeaderBytes → Action
-action_of objects headers = option_map_or (λ entry. action_with entry.1.action entry.1.vq) (first_rule objects headers) action.Default
+action_of objects headers =
+    option_map_or (λ entry. action_with entry.1.action entry.1.vq) (first_rule objects headers) action.Default

@@ -1,5 +1,5 @@
--- Good shape of a list of selectors. The order of types, and that a list has no two IP and no two port headers, are this
--- project's own rules.
+-- Good shape of a list of selectors. The order of types, and that a list has no two IP and no two port headers, are
+-- this project's own rules.
 use Rattle.std.specs.Prelude.{◌≢◌, ℕ, Bool, ◌&&◌, not, List, [], map, nat_lt, ◌==◌, Option, Some, None, Result, Ok, Err, if◌then◌else◌, length, drop, nat_eq, Contains, All}
 use Rattle.std.specs.List.{list_any, list_all, zip}
 use Rattle.std.specs.List.Sorted.{IsStrictlyIncreasing}

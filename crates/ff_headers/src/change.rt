@@ -1,5 +1,5 @@
 ghost use Rattle.std.specs.Prelude.{◌≡◌};
-ghost use Rattle.ff_headers.specs.Changes.{is_close, counted};
+ghost use Rattle.ff_headers.specs.Changes.{is_close, count_after};
 
 use crate::rule::RuleObj;
 use crate::selectors::Selectors;
@@ -46,7 +46,7 @@ impl Change {
 
     /// How many changes there are with this one, which counts unless it is `Close`. The count stands still at 2^64 - 1.
     pub fn count_after(&self, count: u64) -> u64
-        ensures { result ≡ counted count self.now }
+        ensures { result ≡ count_after count self.now }
     {
         if self.is_close() {
             count

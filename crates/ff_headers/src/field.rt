@@ -71,7 +71,7 @@ const UDP: [Field; 4] = fields![
     (48, 16), // checksum
 ];
 
-/// The fields of a header of this kind, in order. Each begins where the one before it ends.
+/// The fields of a header of this kind, in order.
 pub fn fields_of(kind: Kind) -> &'static [Field]
     ensures value { result.now ≡ fields_of kind }
     ensures within { All (LiesWithin (kind_size kind)) result.now }

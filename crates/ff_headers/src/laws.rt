@@ -4,7 +4,7 @@ ghost use Rattle.std.specs.Prelude.{◌≡◌, ◌↔◌, ℕ, List, IsSome, IfS
 ghost use Rattle.ff_headers.specs.declared.limits.Limits.{Limits};
 ghost use Rattle.ff_headers.specs.Frames.{HeaderBytes};
 ghost use Rattle.ff_headers.specs.Objects.{FlowObjects, no_objects, IsWellFormed, IsById};
-ghost use Rattle.ff_headers.specs.Changes.{CarriesShape, step, after, counted, change_count, saturated};
+ghost use Rattle.ff_headers.specs.Changes.{CarriesShape, step, after, count_after, change_count, saturated};
 ghost use Rattle.ff_headers.specs.declared.change.Change.{Change};
 ghost use Rattle.ff_headers.specs.Places.{RuleEntry, IsMatching, IsFirst, first_rule};
 
@@ -29,5 +29,5 @@ pub fn changes_keep_objects_well_formed()
 
 /// Counting changes one by one gives how many there are, or the count's end.
 pub fn each_change_is_counted()
-    ensures { (changes : List Change) → fold counted 0 changes ≡ saturated (change_count changes) }
+    ensures { (changes : List Change) → fold count_after 0 changes ≡ saturated (change_count changes) }
 {}

@@ -10,9 +10,9 @@ use crate::selector::Selector;
 /// The flag of a capability's selector by which any part of its mask may be asked for.
 const PARTIAL_MASK: u8 = 1;
 
-/// Whether a capability's selector allows the mask of a wanted one, of the same header. With PARTIAL_MASK among its flags
-/// it does where every bit of the wanted mask is one of its own; without it, where of each field the wanted mask has
-/// nothing or just what its own has.
+/// Whether a capability's selector allows the mask of a wanted one, of the same header. With PARTIAL_MASK among its
+/// flags it does where every bit of the wanted mask is one of its own; without it, where of each field the wanted
+/// mask has nothing or just what its own has.
 pub fn allowed(have: &Selector, want: &Selector) -> bool
     requires { have.now.kind ≡ want.now.kind }
     ensures value { result ≡ is_allowed have.now want.now }

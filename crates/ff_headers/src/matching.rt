@@ -8,8 +8,8 @@ use crate::rule::Key;
 use crate::selector::Selector;
 use crate::selectors::Selectors;
 
-/// Whether each selector's header is there and equals the key's part for it under the mask. The key's parts stand in the
-/// selectors' order, each of its header's size.
+/// Whether each selector's header is there and equals the key's part for it under the mask. The key's parts stand in
+/// the selectors' order, each of its header's size.
 pub fn matches(selectors: &Selectors, key: &Key, headers: &Headers) -> bool
     requires { length key.now.items ≡ key_size selectors.now }
     ensures value { result ≡ matches selectors.now key.now.items headers.now }

@@ -19,8 +19,8 @@ use ff_headers::{Change, Selector, Selectors};
 use ff_store::Store;
 
 impl Objects {
-    /// The change that a command makes, or the verdict of the first row that holds. Other commands than creates are refused
-    /// as ones whose opcode isn't in use, until they are read.
+    /// The change that a command makes, or the verdict of the first row that holds. Other commands than creates are
+    /// refused as ones whose opcode isn't in use, until they are read.
     #[tactic(auto, using(crate::proofs::CheckLemmas::check_sound, crate::proofs::CheckLemmas::check_refuses))]
     pub fn check(
         &self,
@@ -89,7 +89,7 @@ fn new_group(store: &Store, id: u32, priority: u16, driver: &DriverCaps) -> Resu
 {
     let is_held = store.group_priority(id).is_some();
     check_new(is_held, store.group_count(), driver.limits().groups)?;
-    if store.is_taken(id, priority) {
+    if store.is_priority_taken(id, priority) {
         return Err(Verdict::INVALID_FIELD);
     }
     Ok(Change::PutGroup(id, priority))

@@ -9,8 +9,8 @@ use ff_store::Store;
 use std::alloc::{AllocError, Global};
 use std::marker::Model;
 
-/// Groups, classifiers and rules, within a device's limits. They are always well formed: each rule's group and classifier
-/// are held, its key has the classifier's size, and no two groups have one priority.
+/// Groups, classifiers and rules, within a device's limits. They are always well formed: each rule's group and
+/// classifier are held, its key has the classifier's size, and no two groups have one priority.
 #[derive(Drop)]
 pub struct Objects {
     store: Store,

@@ -5,8 +5,8 @@ ghost use Rattle.cap_table.specs.Rows.{unless_refused};
 ghost use Rattle.cap_table.specs.States.{is_receive_queue};
 ghost use Rattle.cap_table.specs.Verdicts.{rule_faults, rule_rows, rule_parts, action_of_byte};
 
-use admin_wire::{RawKey, RawRule};
-use cap_table::{DROP_ACTION, DeviceCaps, DriverCaps, QUEUE_ACTION, Verdict};
+use admin_wire::{RawKey, RawRule, VIRTIO_NET_FF_ACTION_DROP, VIRTIO_NET_FF_ACTION_RX_VQ};
+use cap_table::{DeviceCaps, DriverCaps, Verdict};
 use ff_headers::{Key, RuleAction, RuleObj};
 use ff_store::Store;
 
@@ -40,7 +40,7 @@ pub(crate) fn rule_in(
     if !driver.has_action(rule.action) {
         return Err(Verdict::INVALID_FIELD);
     }
-    if rule.action == QUEUE_ACTION && !is_receive_queue(device.pairs(), rule.vq) {
+    if rule.action == VIRTIO_NET_FF_ACTION_RX_VQ && !is_receive_queue(device.pairs(), rule.vq) {
         return Err(Verdict::INVALID_FIELD);
     }
     if store.other_rules_in_group(id, rule.group) >= driver.limits().per_group {
@@ -67,7 +67,7 @@ fn is_receive_queue(pairs: u8, vq: u16) -> bool
 fn action_of_byte(action: u8) -> RuleAction
     ensures { result ≡ action_of_byte action }
 {
-    if action == DROP_ACTION {
+    if action == VIRTIO_NET_FF_ACTION_DROP {
         RuleAction::Drop
     } else {
         RuleAction::Queue

@@ -7,9 +7,9 @@ use Rattle.std.specs.Ordering.{nat_cmp}
 use Rattle.std.specs.BTreeMap.{is_at}
 use Rattle.std.proofs.lemmas.Bool.Decides.{nat_tests}
 use Rattle.std.proofs.lemmas.Map.Made.{lookup-map_values, keys_of-map_values}
-use Rattle.ff_headers.specs.Objects.{held, IsById}
+use Rattle.ff_headers.specs.Objects.{object_under, IsById}
 use Rattle.ff_headers.specs.Changes.{put, without, has_room}
-use Rattle.ff_headers.proofs.EntryLemmas.{put-cons, without-cons, held-put, held-without}
+use Rattle.ff_headers.proofs.EntryLemmas.{put-cons, without-cons, object_under-put, object_under-without}
 use Rattle.res_objects.specs.BoundedMap.{BoundedMap, object_of, without_object}
 use Rattle.res_objects.specs.declared.obj_err.ObjErr.{ObjErr}
 use Rattle.res_objects.specs.declared.obj_err.ObjErr.TheVariants.{Missing}
@@ -42,11 +42,11 @@ is_some-map f (Some x) = refl
 module _ {T : Type 0} where
   -- ---- the objects
 
-  pub held-objects : (es : List (ℕ × Counted T)) (id : ℕ) → held (objects_of es) id ≡ option_map (λ c. c.object) (held es id)
-  held-objects es id = lookup-map_values (λ c. c.object) (is_at (nat_cmp id)) es
+  pub object_under-objects : (es : List (ℕ × Counted T)) (id : ℕ) → object_under (objects_of es) id ≡ option_map (λ c. c.object) (object_under es id)
+  object_under-objects es id = lookup-map_values (λ c. c.object) (is_at (nat_cmp id)) es
 
-  pub some-objects : (es : List (ℕ × Counted T)) (id : ℕ) → is_some (held (objects_of es) id) ≡ is_some (held es id)
-  some-objects es id = ap is_some (held-objects es id) ∙ is_some-map (λ c. c.object) (held es id)
+  pub some-objects : (es : List (ℕ × Counted T)) (id : ℕ) → is_some (object_under (objects_of es) id) ≡ is_some (object_under es id)
+  some-objects es id = ap is_some (object_under-objects es id) ∙ is_some-map (λ c. c.object) (object_under es id)
 
   pub length-objects : (es : List (ℕ × Counted T)) → length (objects_of es) ≡ length es
   length-objects [] = refl
@@ -71,26 +71,26 @@ module _ {T : Type 0} where
     by_test false later = ap (λ (l : List (ℕ × T)). (e.0, e.1.object) ∷ l) later
 
   -- the objects stay where the count alone changes
-  pub objects-recount : (es : List (ℕ × Counted T)) (id : ℕ) (c d : Counted T) → IsById es → held es id ≡ Some c → d.object ≡ c.object → objects_of (put es id d) ≡ objects_of es
+  pub objects-recount : (es : List (ℕ × Counted T)) (id : ℕ) (c d : Counted T) → IsById es → object_under es id ≡ Some c → d.object ≡ c.object → objects_of (put es id d) ≡ objects_of es
   objects-recount es id c d rising has same =
-      objects-put es id d ∙ (put-held (objects_of es) id d.object (rw (keys_of-map_values (λ (x : Counted T). x.object) es) rising) (held-objects es id ∙ (ap (option_map (λ (x : Counted T). x.object)) has ∙ ap Some (sym same))))
+      objects-put es id d ∙ (put-held (objects_of es) id d.object (rw (keys_of-map_values (λ (x : Counted T). x.object) es) rising) (object_under-objects es id ∙ (ap (option_map (λ (x : Counted T). x.object)) has ∙ ap Some (sym same))))
 
   -- a reference to what is held
-  pub found : (es : List (ℕ × Counted T)) (id : ℕ) (o : Option (Bor (Counted T))) (c : Bor (Counted T)) → option_copied o ≡ held es id → o ≡ Some c → held es id ≡ Some c.now
+  pub found : (es : List (ℕ × Counted T)) (id : ℕ) (o : Option (Bor (Counted T))) (c : Bor (Counted T)) → option_copied o ≡ object_under es id → o ≡ Some c → object_under es id ≡ Some c.now
   found es id o c value is = sym value ∙ ap option_copied is
 
-  pub is_found : (es : List (ℕ × Counted T)) (id : ℕ) (o : Option (Bor (Counted T))) → option_copied o ≡ held es id → IsSome (held (objects_of es) id) → IsSome o
+  pub is_found : (es : List (ℕ × Counted T)) (id : ℕ) (o : Option (Bor (Counted T))) → option_copied o ≡ object_under es id → IsSome (object_under (objects_of es) id) → IsSome o
   is_found es id o value has = sym (is_some-copied o) ∙ (ap is_some value ∙ (sym (some-objects es id) ∙ has))
 
   -- ---- the counts
 
   pub count-put : (es : List (ℕ × Counted T)) (id : ℕ) (c : Counted T) (q : ℕ) → count_of (put es id c) q ≡ cond (eqb q id) c.rules (count_of es q)
-  count-put es id c q = ap (λ (o : Option (Counted T)). option_map_or (λ x. x.rules) o 0) (held-put es id c q) ∙ by_test (eqb q id) where
-    by_test : (b : Bool) → option_map_or (λ x. x.rules) (cond b (Some c) (held es q)) 0 ≡ cond b c.rules (count_of es q)
+  count-put es id c q = ap (λ (o : Option (Counted T)). option_map_or (λ x. x.rules) o 0) (object_under-put es id c q) ∙ by_test (eqb q id) where
+    by_test : (b : Bool) → option_map_or (λ x. x.rules) (cond b (Some c) (object_under es q)) 0 ≡ cond b c.rules (count_of es q)
     by_test true = refl
     by_test false = refl
 
-  count-at : (es : List (ℕ × Counted T)) (id : ℕ) (c : Counted T) → held es id ≡ Some c → count_of es id ≡ c.rules
+  count-at : (es : List (ℕ × Counted T)) (id : ℕ) (c : Counted T) → object_under es id ≡ Some c → count_of es id ≡ c.rules
   count-at es id c has = ap (λ (o : Option (Counted T)). option_map_or (λ x. x.rules) o 0) has
 
   -- a put with the count that stood there
@@ -101,7 +101,7 @@ module _ {T : Type 0} where
     by_test false is = refl
 
   -- with one more
-  pub count-raised : (es : List (ℕ × Counted T)) (id : ℕ) (c d : Counted T) (q : ℕ) → held es id ≡ Some c → d.rules ≡ c.rules + 1 → count_of (put es id d) q ≡ count_of es q + cond (eqb id q) 1 0
+  pub count-raised : (es : List (ℕ × Counted T)) (id : ℕ) (c d : Counted T) (q : ℕ) → object_under es id ≡ Some c → d.rules ≡ c.rules + 1 → count_of (put es id d) q ≡ count_of es q + cond (eqb id q) 1 0
   count-raised es id c d q has more = count-put es id d q ∙ by_test (eqb q id) (eqb id q) refl refl where
     by_test : (a b : Bool) → eqb q id ≡ a → eqb id q ≡ b → cond a d.rules (count_of es q) ≡ count_of es q + cond b 1 0
     by_test true true is si =
@@ -112,11 +112,11 @@ module _ {T : Type 0} where
     by_test true false is si = absurd (grind (arith, nat_tests))
     by_test false true is si = absurd (grind (arith, nat_tests))
 
-  pub one_fewer : (es : List (ℕ × Counted T)) (id : ℕ) (c : Counted T) → held es id ≡ Some c → 0 < count_of es id → c.rules - 1 + 1 ≡ c.rules
+  pub one_fewer : (es : List (ℕ × Counted T)) (id : ℕ) (c : Counted T) → object_under es id ≡ Some c → 0 < count_of es id → c.rules - 1 + 1 ≡ c.rules
   one_fewer es id c has some = let at = count-at es id c has in omega arith
 
   -- with one fewer
-  pub count-lowered : (es : List (ℕ × Counted T)) (id : ℕ) (c d : Counted T) (q : ℕ) → held es id ≡ Some c → d.rules + 1 ≡ c.rules → count_of (put es id d) q + cond (eqb id q) 1 0 ≡ count_of es q
+  pub count-lowered : (es : List (ℕ × Counted T)) (id : ℕ) (c d : Counted T) (q : ℕ) → object_under es id ≡ Some c → d.rules + 1 ≡ c.rules → count_of (put es id d) q + cond (eqb id q) 1 0 ≡ count_of es q
   count-lowered es id c d q has fewer = ap (λ n. n + cond (eqb id q) 1 0) (count-put es id d q) ∙ by_test (eqb q id) (eqb id q) refl refl where
     by_test : (a b : Bool) → eqb q id ≡ a → eqb id q ≡ b → cond a d.rules (count_of es q) + cond b 1 0 ≡ count_of es q
     by_test true true is si =
@@ -129,7 +129,7 @@ module _ {T : Type 0} where
 
   -- without an id whose count is 0
   pub count-without : (es : List (ℕ × Counted T)) (id q : ℕ) → IsById es → count_of es id ≡ 0 → count_of (without es id) q ≡ count_of es q
-  count-without es id q rising none = ap (λ (o : Option (Counted T)). option_map_or (λ x. x.rules) o 0) (held-without es id q rising) ∙ by_test (eqb id q) refl where
-    by_test : (b : Bool) → eqb id q ≡ b → option_map_or (λ x. x.rules) (cond b None (held es q)) 0 ≡ count_of es q
+  count-without es id q rising none = ap (λ (o : Option (Counted T)). option_map_or (λ x. x.rules) o 0) (object_under-without es id q rising) ∙ by_test (eqb id q) refl where
+    by_test : (b : Bool) → eqb id q ≡ b → option_map_or (λ x. x.rules) (cond b None (object_under es q)) 0 ≡ count_of es q
     by_test true is = let at : id ≡ q = grind (arith, nat_tests) in sym none ∙ ap (count_of es) at
     by_test false is = refl

@@ -3,12 +3,9 @@ use Rattle.std.proofs.Common.{◌≡◌, ℕ, ◌+◌, ◌<◌, Bool, true, fals
 use Rattle.std.specs.Prelude.{slice_get}
 use Rattle.std.specs.List.{list_any}
 use Rattle.std.specs.Option.{option_map_or}
+use Rattle.std.proofs.lemmas.Bool.{or_from}
 use Rattle.std.proofs.lemmas.Option.{slice_get_cases}
 use Rattle.std.proofs.lemmas.List.Folds.{list_any_more, list_any_at}
-
-neither : (a b : Bool) → a ≡ false → b ≡ false → (a || b) ≡ false
-neither true b h k = absurd cc
-neither false b h k = k
 
 module _ {X : Type 0} (p : X → Bool) (es : List X) (i : ℕ) where
   -- whether the element at the place passes
@@ -20,7 +17,7 @@ module _ {X : Type 0} (p : X → Bool) (es : List X) (i : ℕ) where
     | inl w ↦
         let is = ap (λ (o : Option X). option_map_or p o false) w.2 in
         let fails : p (get_or es i w.0) ≡ false = ap p w.3 ∙ (sym is ∙ here) in
-        list_any_more p es i w.0 lt ∙ neither _ _ before fails
+        list_any_more p es i w.0 lt ∙ or_from _ _ before fails
     | inr w ↦ absurd (omega arith)
   ]
 

@@ -4,13 +4,13 @@ use Rattle.std.specs.Prelude.{Bool}
 use Rattle.std.proofs.lemmas.Bool.Decides.{nat_tests}
 use Rattle.std.proofs.lemmas.List.Sums.{count_by-le-length}
 use Rattle.ff_headers.specs.RuleParts.{RuleParts}
-use Rattle.ff_headers.specs.Objects.{held, IsById}
+use Rattle.ff_headers.specs.Objects.{object_under, IsById}
 use Rattle.ff_headers.specs.Changes.{put, without}
 use Rattle.ff_store.specs.Counts.{once}
 use Rattle.ff_store.proofs.EntryLemmas.{count-put, count-without}
 
-at_itself : (q : ℕ) → cond {A = ℕ} (eqb q q) 1 0 ≡ 1
-at_itself q = grind (arith, nat_tests)
+one_for_itself : (q : ℕ) → cond {A = ℕ} (eqb q q) 1 0 ≡ 1
+one_for_itself q = grind (arith, nat_tests)
 
 -- the rules are counted by what they name, a group or a classifier
 module _ (name : RuleParts → ℕ) where
@@ -21,8 +21,8 @@ module _ (name : RuleParts → ℕ) where
   abbrev naming : List (ℕ × RuleParts) → ℕ → ℕ
   naming rules q = count_by (λ entry. eqb (name entry.1) q) rules
 
-  module _ (rules : List (ℕ × RuleParts)) (id : ℕ) (stood : Option RuleParts) (is : stood ≡ held rules id) (before : ℕ → ℕ) (was : (q : ℕ) → before q ≡ naming rules q) where
-    once_is : (q : ℕ) → once (names q) stood ≡ once (names q) (held rules id)
+  module _ (rules : List (ℕ × RuleParts)) (id : ℕ) (stood : Option RuleParts) (is : stood ≡ object_under rules id) (before : ℕ → ℕ) (was : (q : ℕ) → before q ≡ naming rules q) where
+    once_is : (q : ℕ) → once (names q) stood ≡ once (names q) (object_under rules id)
     once_is q = ap (once (names q)) is
 
     -- a rule that is held is counted
@@ -46,7 +46,7 @@ module _ (name : RuleParts → ℕ) where
         -- one more fits where the rules do
         pub one_fits : (limit : ℕ) → limit < 2 ^ 32 → length (put rules id rule) ≤ limit → uncounted (name rule) + 1 < 2 ^ 32
         one_fits limit small fit =
-            let one : cond {A = ℕ} (eqb (name rule) (name rule)) 1 0 ≡ 1 = at_itself (name rule) in
+            let one : cond {A = ℕ} (eqb (name rule) (name rule)) 1 0 ≡ 1 = one_for_itself (name rule) in
             let counted = replaced (name rule) in
             let most = count_by-le-length (λ (entry : ℕ × RuleParts). eqb (name entry.1) (name rule)) (put rules id rule) in
             omega arith

@@ -8,8 +8,8 @@ use Rattle.std.proofs.lemmas.Bool.Decides.{nat_tests}
 use Rattle.ff_headers.specs.SelectorParts.{SelectorParts}
 use Rattle.ff_headers.specs.RuleParts.{RuleParts}
 use Rattle.ff_headers.specs.Matching.{key_size}
-use Rattle.ff_headers.specs.Objects.{FlowObjects, held, IsWellFormed}
-use Rattle.ff_headers.specs.Changes.{put, without, has_room, is_sound, changed, step, CarriesShape, names_classifier}
+use Rattle.ff_headers.specs.Objects.{FlowObjects, object_under, IsWellFormed}
+use Rattle.ff_headers.specs.Changes.{put, without, has_room, is_sound, with_change_made, step, CarriesShape, names_classifier}
 use Rattle.ff_headers.specs.Dependents.{rules_in_group, rules_with_classifier}
 use Rattle.ff_headers.specs.declared.limits.Limits.{Limits}
 use Rattle.ff_headers.specs.declared.change.Change.{Change}
@@ -21,7 +21,7 @@ use Rattle.ff_store.specs.Stores.{GroupMap, ClassifierMap, RuleMap, objects_in, 
 use Rattle.ff_store.proofs.EntryLemmas.{some_counted}
 
 -- the tests of a put of a classifier say that there is room
-room_by : (held below unnamed : Bool) → cond held unnamed below ≡ true → (held || below) ≡ true
+room_by : (is_held below unnamed : Bool) → cond is_held unnamed below ≡ true → (is_held || below) ≡ true
 room_by true below unnamed h = refl
 room_by false below unnamed h = h
 
@@ -37,7 +37,7 @@ module _ {X : Type 0} (p : X → Bool) (es : List (ℕ × X)) where
 -- a change that isn't sound changes nothing
 pub unsound : (self : LimitedObjects) (change : Change) → is_sound self.limits self.objects change ≡ false → self ≡ with_change self change
 unfolding step
-unsound self change h = ap (λ b. record self { objects = cond b (changed self.objects change) self.objects }) (sym h)
+unsound self change h = ap (λ b. record self { objects = cond b (with_change_made self.objects change) self.objects }) (sym h)
 
 pub close_unsound : (self : LimitedObjects) → is_sound self.limits self.objects Close ≡ false
 unfolding is_sound
@@ -56,19 +56,19 @@ module _ (limits : Limits) (groups : GroupMap) (classifiers : ClassifierMap) (ru
     seen P h = subst (λ (s : LimitedObjects). P s.limits s.objects) (sym view) h
 
     module _ (change : Change) where
-      sound_step : is_sound limits objects change ≡ true → changed objects change ≡ step limits objects change
+      sound_step : is_sound limits objects change ≡ true → with_change_made objects change ≡ step limits objects change
       unfolding step
-      sound_step sound = ap (λ b. cond b (changed objects change) objects) (sym sound)
+      sound_step sound = ap (λ b. cond b (with_change_made objects change) objects) (sym sound)
 
       -- what contracts see after the change
-      pub stepped : (groups' : GroupMap) (classifiers' : ClassifierMap) (rules' : RuleMap) → is_sound self.limits self.objects change ≡ true → objects_in groups' classifiers' rules' ≡ changed objects change → let after : LimitedObjects = record { limits = limits; objects = objects_in groups' classifiers' rules' } in after ≡ with_change self change
+      pub stepped : (groups' : GroupMap) (classifiers' : ClassifierMap) (rules' : RuleMap) → is_sound self.limits self.objects change ≡ true → objects_in groups' classifiers' rules' ≡ with_change_made objects change → let after : LimitedObjects = record { limits = limits; objects = objects_in groups' classifiers' rules' } in after ≡ with_change self change
       stepped groups' classifiers' rules' sound made =
           rw (← view) (ap (λ (o : FlowObjects). let s : LimitedObjects = record { limits = limits; objects = o } in s) (made ∙ sound_step (seen (λ l o. is_sound l o change ≡ true) sound)))
 
       -- and what is kept
       pub kept : (groups' : GroupMap) (classifiers' : ClassifierMap) (rules' : RuleMap)
           → is_sound self.limits self.objects change ≡ true → CarriesShape change
-          → objects_in groups' classifiers' rules' ≡ changed objects change
+          → objects_in groups' classifiers' rules' ≡ with_change_made objects change
           → groups'.room ≡ groups.room → classifiers'.room ≡ classifiers.room → rules'.room ≡ rules.room
           → ((q : ℕ) → count_of groups'.entries q ≡ rules_in_group (objects_in groups' classifiers' rules') q)
           → ((q : ℕ) → count_of classifiers'.entries q ≡ rules_with_classifier (objects_in groups' classifiers' rules') q)
@@ -97,7 +97,7 @@ module _ (limits : Limits) (groups : GroupMap) (classifiers : ClassifierMap) (ru
     unfolding is_sound
     classifier_room id selectors sound =
         let tests = seen (λ l o. is_sound l o (PutClassifier id selectors) ≡ true) sound in
-        rw was.classifiers_room (room_by (is_some (held objects.classifiers id)) (ltb (length objects.classifiers) limits.classifiers) (not (names_classifier objects id)) tests)
+        rw was.classifiers_room (room_by (is_some (object_under objects.classifiers id)) (ltb (length objects.classifiers) limits.classifiers) (not (names_classifier objects id)) tests)
 
     pub classifier_unnamed : (id : ℕ) → is_sound self.limits self.objects (DropClassifier id) ≡ true → count_of classifiers.entries id ≡ 0
     unfolding is_sound
@@ -106,28 +106,28 @@ module _ (limits : Limits) (groups : GroupMap) (classifiers : ClassifierMap) (ru
     -- ---- a change of one map, where the rules and so the counts stay
 
     module _ (groups' : GroupMap) where
-      pub group_put : (id priority : ℕ) → objects_of groups'.entries ≡ put (objects_of groups.entries) id priority → objects_in groups' classifiers rules ≡ changed objects (PutGroup id priority)
-      unfolding changed
+      pub group_put : (id priority : ℕ) → objects_of groups'.entries ≡ put (objects_of groups.entries) id priority → objects_in groups' classifiers rules ≡ with_change_made objects (PutGroup id priority)
+      unfolding with_change_made
       group_put id priority made = ap (λ es. record objects { groups = es }) made
 
-      pub group_dropped : (id : ℕ) → objects_of groups'.entries ≡ without (objects_of groups.entries) id → objects_in groups' classifiers rules ≡ changed objects (DropGroup id)
-      unfolding changed
+      pub group_dropped : (id : ℕ) → objects_of groups'.entries ≡ without (objects_of groups.entries) id → objects_in groups' classifiers rules ≡ with_change_made objects (DropGroup id)
+      unfolding with_change_made
       group_dropped id made = ap (λ es. record objects { groups = es }) made
 
-      pub groups_kept : (change : Change) → is_sound self.limits self.objects change ≡ true → CarriesShape change → objects_in groups' classifiers rules ≡ changed objects change → ((q : ℕ) → count_of groups'.entries q ≡ count_of groups.entries q) → groups'.room ≡ groups.room → IsStore limits groups' classifiers rules
+      pub groups_kept : (change : Change) → is_sound self.limits self.objects change ≡ true → CarriesShape change → objects_in groups' classifiers rules ≡ with_change_made objects change → ((q : ℕ) → count_of groups'.entries q ≡ count_of groups.entries q) → groups'.room ≡ groups.room → IsStore limits groups' classifiers rules
       groups_kept change sound shape made counts room =
           kept change groups' classifiers rules sound shape made room refl refl (λ q. counts q ∙ was.group_counts q) was.classifier_counts
 
     module _ (classifiers' : ClassifierMap) where
-      pub classifier_put : (id : ℕ) (selectors : List SelectorParts) → objects_of classifiers'.entries ≡ put (objects_of classifiers.entries) id selectors → objects_in groups classifiers' rules ≡ changed objects (PutClassifier id selectors)
-      unfolding changed
+      pub classifier_put : (id : ℕ) (selectors : List SelectorParts) → objects_of classifiers'.entries ≡ put (objects_of classifiers.entries) id selectors → objects_in groups classifiers' rules ≡ with_change_made objects (PutClassifier id selectors)
+      unfolding with_change_made
       classifier_put id selectors made = ap (λ es. record objects { classifiers = es }) made
 
-      pub classifier_dropped : (id : ℕ) → objects_of classifiers'.entries ≡ without (objects_of classifiers.entries) id → objects_in groups classifiers' rules ≡ changed objects (DropClassifier id)
-      unfolding changed
+      pub classifier_dropped : (id : ℕ) → objects_of classifiers'.entries ≡ without (objects_of classifiers.entries) id → objects_in groups classifiers' rules ≡ with_change_made objects (DropClassifier id)
+      unfolding with_change_made
       classifier_dropped id made = ap (λ es. record objects { classifiers = es }) made
 
-      pub classifiers_kept : (change : Change) → is_sound self.limits self.objects change ≡ true → CarriesShape change → objects_in groups classifiers' rules ≡ changed objects change → ((q : ℕ) → count_of classifiers'.entries q ≡ count_of classifiers.entries q) → classifiers'.room ≡ classifiers.room → IsStore limits groups classifiers' rules
+      pub classifiers_kept : (change : Change) → is_sound self.limits self.objects change ≡ true → CarriesShape change → objects_in groups classifiers' rules ≡ with_change_made objects change → ((q : ℕ) → count_of classifiers'.entries q ≡ count_of classifiers.entries q) → classifiers'.room ≡ classifiers.room → IsStore limits groups classifiers' rules
       classifiers_kept change sound shape made counts room =
           kept change groups classifiers' rules sound shape made refl room refl was.group_counts (λ q. counts q ∙ was.classifier_counts q)
 
@@ -138,12 +138,12 @@ module _ (limits : Limits) (groups : GroupMap) (classifiers : ClassifierMap) (ru
     drop_rule_sound id = refl
 
     module _ (groups' : GroupMap) (classifiers' : ClassifierMap) (rules' : RuleMap) (same_groups : objects_of groups'.entries ≡ objects_of groups.entries) (same_classifiers : objects_of classifiers'.entries ≡ objects_of classifiers.entries) where
-      pub rule_put : (id : ℕ) (rule : RuleParts) → rules'.entries ≡ put rules.entries id rule → objects_in groups' classifiers' rules' ≡ changed objects (PutRule id rule)
-      unfolding changed
+      pub rule_put : (id : ℕ) (rule : RuleParts) → rules'.entries ≡ put rules.entries id rule → objects_in groups' classifiers' rules' ≡ with_change_made objects (PutRule id rule)
+      unfolding with_change_made
       rule_put id rule made = rw (same_groups, same_classifiers, made) refl
 
-      pub rule_dropped : (id : ℕ) → rules'.entries ≡ without rules.entries id → objects_in groups' classifiers' rules' ≡ changed objects (DropRule id)
-      unfolding changed
+      pub rule_dropped : (id : ℕ) → rules'.entries ≡ without rules.entries id → objects_in groups' classifiers' rules' ≡ with_change_made objects (DropRule id)
+      unfolding with_change_made
       rule_dropped id made = rw (same_groups, same_classifiers, made) refl
 
     module _ (id : ℕ) (rule : RuleParts) (sound : is_sound self.limits self.objects (PutRule id rule) ≡ true) where
@@ -154,16 +154,16 @@ module _ (limits : Limits) (groups : GroupMap) (classifiers : ClassifierMap) (ru
       unfolding is_sound
       rule_room = rw was.rules_room (and_parts _ _ rule_tests).1
 
-      pub rule_group : is_some (held objects.groups rule.group) ≡ true
+      pub rule_group : is_some (object_under objects.groups rule.group) ≡ true
       unfolding is_sound
       rule_group = (and_parts _ _ (and_parts _ _ rule_tests).0).0
 
-      pub rule_classifier : is_some (held objects.classifiers rule.classifier) ≡ true
+      pub rule_classifier : is_some (object_under objects.classifiers rule.classifier) ≡ true
       unfolding is_sound
-      rule_classifier = is_some_by (λ selectors. eqb (length rule.key) (key_size selectors)) (held objects.classifiers rule.classifier) (and_parts _ _ (and_parts _ _ rule_tests).0).1
+      rule_classifier = is_some_by (λ selectors. eqb (length rule.key) (key_size selectors)) (object_under objects.classifiers rule.classifier) (and_parts _ _ (and_parts _ _ rule_tests).0).1
 
       pub rules_fit : length (put rules.entries id rule) ≤ limits.rules
-      unfolding changed
+      unfolding with_change_made
       rules_fit =
           let after = subst (IsWellFormed limits) (sym (sound_step (PutRule id rule) rule_tests)) (step_keeps limits objects was.well_formed (PutRule id rule) tt) in
           after.within.rules_fit

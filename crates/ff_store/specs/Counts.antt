@@ -1,7 +1,7 @@
 -- Objects that are kept with how many rules name them. This project's own.
 use Rattle.std.specs.Prelude.{◌≡◌, ℕ, ◌+◌, Bool, if◌then◌else◌, List, map, Option}
 use Rattle.std.specs.Option.{option_map_or}
-use Rattle.ff_headers.specs.Objects.{held}
+use Rattle.ff_headers.specs.Objects.{object_under}
 use Rattle.res_objects.specs.BoundedMap.{BoundedMap}
 use Rattle.ff_store.specs.declared.counted.Counted.{Counted}
 
@@ -16,7 +16,7 @@ module _ {T : Type 0} where
 
   -- the count that is kept with an id, 0 where the id isn't held
   abbrev pub count_of : List (ℕ × Counted T) → ℕ → ℕ
-  count_of entries id = option_map_or (λ counted. counted.rules) (held entries id) 0
+  count_of entries id = option_map_or (λ counted. counted.rules) (object_under entries id) 0
 
   -- the same objects, where each id has so much less as its count
   pub record IsUncounted (before after : BoundedMap (Counted T)) (less : ℕ → ℕ) : Type 0 where

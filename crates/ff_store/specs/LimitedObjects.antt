@@ -4,6 +4,7 @@ use Rattle.ff_headers.specs.declared.change.Change.{Change}
 use Rattle.ff_headers.specs.Objects.{FlowObjects, no_objects}
 use Rattle.ff_headers.specs.Changes.{step}
 
+-- objects, and the limits within which there is room for them
 pub record LimitedObjects : Type 0 where
   pub limits : Limits
   pub objects : FlowObjects
@@ -14,4 +15,4 @@ none_within limits = record { limits = limits; objects = no_objects }
 
 -- the objects after a change
 abbrev pub with_change : LimitedObjects → Change → LimitedObjects
-with_change held change = record held { objects = step held.limits held.objects change }
+with_change before change = record before { objects = step before.limits before.objects change }

@@ -9,6 +9,7 @@ use Rattle.res_objects.specs.BoundedMap.{BoundedMap}
 use Rattle.ff_store.specs.Counts.{objects_of, count_of}
 use Rattle.ff_store.specs.declared.counted.Counted.{Counted}
 
+-- the groups' priorities, the classifiers' selectors and the rules, by id and within a room
 abbrev pub GroupMap : Type 0
 GroupMap = BoundedMap (Counted ℕ)
 
@@ -33,5 +34,6 @@ pub record IsStore (limits : Limits) (groups : GroupMap) (classifiers : Classifi
   pub rules_room : rules.room ≡ limits.rules
   pub well_formed : IsWellFormed limits (objects_in groups classifiers rules)
   pub group_counts : (id : ℕ) → count_of groups.entries id ≡ rules_in_group (objects_in groups classifiers rules) id
-  pub classifier_counts : (id : ℕ) → count_of classifiers.entries id ≡ rules_with_classifier (objects_in groups classifiers rules) id
+  pub classifier_counts : (id : ℕ)
+      → count_of classifiers.entries id ≡ rules_with_classifier (objects_in groups classifiers rules) id
   pub counts_fit : limits.rules < 2 ^ 32

@@ -85,7 +85,7 @@ impl Store {
     }
 }
 
-/// A rule that is held no longer names its group and its classifier no more.
+/// Lowers the counts of the group and the classifier that a rule named which is held no longer.
 fn uncount(
     groups: &mut ObjMap<Counted<u16>>,
     classifiers: &mut ObjMap<Counted<Selectors>>,

@@ -2,7 +2,7 @@
 
 ghost use Rattle.std.specs.Prelude.{◌≡◌, ℕ, ◌+◌, ◌<◌, ◌^◌, ◌==◌, if◌then◌else◌, IsSome, true, slice_get};
 ghost use Rattle.std.specs.Option.{option_copied, option_map};
-ghost use Rattle.ff_headers.specs.Objects.{held, IsById};
+ghost use Rattle.ff_headers.specs.Objects.{object_under, IsById};
 ghost use Rattle.ff_headers.specs.Changes.{put, without, has_room};
 ghost use Rattle.res_objects.specs.BoundedMap.{with_object, without_object, deref_object};
 ghost use Rattle.ff_store.specs.Counts.{objects_of, count_of};
@@ -17,28 +17,28 @@ pub(crate) struct Counted<T> {
     rules: u32,
 }
 
-/// A type whose equal copies take no memory.
-pub(crate) trait Equal {
+/// A type whose copies take no memory.
+pub(crate) trait CopiesFree {
     /// An equal value.
-    fn equal(&self) -> Self
+    fn copied(&self) -> Self
         ensures { result ≡ self.now };
 }
 
-impl Equal for u16 {
-    fn equal(&self) -> u16 {
+impl CopiesFree for u16 {
+    fn copied(&self) -> u16 {
         *self
     }
 }
 
-impl Equal for Selectors {
-    fn equal(&self) -> Selectors {
+impl CopiesFree for Selectors {
+    fn copied(&self) -> Selectors {
         self.copy()
     }
 }
 
 /// The object under the id.
 pub(crate) fn object_of<T: Drop>(map: &ObjMap<Counted<T>>, id: u32) -> Option<&T>
-    ensures { option_copied result ≡ held (objects_of map.now.entries) id }
+    ensures { option_copied result ≡ object_under (objects_of map.now.entries) id }
 {
     match map.query(id) {
         Some(counted) => Some(&counted.object),
@@ -67,8 +67,8 @@ pub(crate) fn count_of<T: Drop>(map: &ObjMap<Counted<T>>, id: u32) -> u32
 }
 
 /// One rule more names the id.
-pub(crate) fn raise<T: Equal + Drop>(map: &mut ObjMap<Counted<T>>, id: u32)
-    requires held { IsSome (held (objects_of map.old.entries) id) }
+pub(crate) fn raise<T: CopiesFree + Drop>(map: &mut ObjMap<Counted<T>>, id: u32)
+    requires held { IsSome (object_under (objects_of map.old.entries) id) }
     requires fits { count_of map.old.entries id + 1 < 2 ^ 32 }
     ensures objects { objects_of map.new.entries ≡ objects_of map.old.entries }
     ensures counts { (q : ℕ) → count_of map.new.entries q ≡ count_of map.old.entries q + (if id == q then 1 else 0) }
@@ -76,12 +76,12 @@ pub(crate) fn raise<T: Equal + Drop>(map: &mut ObjMap<Counted<T>>, id: u32)
 {
     let named = map.query(id).unwrap();
     let rules = named.rules + 1;
-    let object = named.object.equal();
+    let object = named.object.copied();
     map.modify(id, Counted { object, rules }).unwrap();
 }
 
 /// One rule fewer names the id.
-pub(crate) fn lower<T: Equal + Drop>(map: &mut ObjMap<Counted<T>>, id: u32)
+pub(crate) fn lower<T: CopiesFree + Drop>(map: &mut ObjMap<Counted<T>>, id: u32)
     requires { 0 < count_of map.old.entries id }
     ensures objects { objects_of map.new.entries ≡ objects_of map.old.entries }
     ensures counts { (q : ℕ) → count_of map.new.entries q + (if id == q then 1 else 0) ≡ count_of map.old.entries q }
@@ -89,7 +89,7 @@ pub(crate) fn lower<T: Equal + Drop>(map: &mut ObjMap<Counted<T>>, id: u32)
 {
     let named = map.query(id).unwrap();
     let rules = named.rules - 1;
-    let object = named.object.equal();
+    let object = named.object.copied();
     map.modify(id, Counted { object, rules }).unwrap();
 }
 
@@ -118,7 +118,7 @@ pub(crate) fn remove_object<T: Drop>(map: &mut ObjMap<Counted<T>>, id: u32)
 pub(crate) fn put<T: Drop>(map: &mut ObjMap<T>, id: u32, object: T) -> Option<T>
     requires { has_room map.old.entries id map.old.room ≡ true }
     ensures entries { map.new ≡ with_object map.old id object }
-    ensures replaced { result ≡ held map.old.entries id }
+    ensures replaced { result ≡ object_under map.old.entries id }
 {
     if map.query(id).is_some() {
         map.modify(id, object).ok()
@@ -131,7 +131,7 @@ pub(crate) fn put<T: Drop>(map: &mut ObjMap<T>, id: u32, object: T) -> Option<T>
 /// Removes the id, where it is held, and gives its object.
 pub(crate) fn remove<T: Drop>(map: &mut ObjMap<T>, id: u32) -> Option<T>
     ensures entries { map.new ≡ without_object map.old id }
-    ensures removed { result ≡ held map.old.entries id }
+    ensures removed { result ≡ object_under map.old.entries id }
     ensures rising { IsById map.old.entries }
 {
     let _rising = map.len();

@@ -1,15 +1,17 @@
 //! Whether a change is sound.
 
-ghost use Rattle.std.specs.Prelude.{◌≡◌, not, ◌&&◌, ◌||◌, ◌==◌, if◌then◌else◌, false, is_some, length, nat_lt, slice_get};
+ghost use Rattle.std.specs.Prelude.{◌≡◌, not, ◌&&◌, ◌||◌, ◌==◌, if◌then◌else◌, false};
+ghost use Rattle.std.specs.Prelude.{is_some, length, nat_lt, slice_get};
 ghost use Rattle.std.specs.Option.{option_map_or};
-ghost use Rattle.ff_headers.specs.Objects.{held};
-ghost use Rattle.ff_headers.specs.Changes.{is_sound, is_taken, is_backed, has_room, names_group, names_classifier};
+ghost use Rattle.ff_headers.specs.Objects.{object_under};
+ghost use Rattle.ff_headers.specs.Changes.{is_sound, is_priority_taken, is_backed, has_room, names_group, names_classifier};
 
 use crate::store::Store;
 use ff_headers::{Change, RuleObj};
 
 impl Store {
-    /// Whether the change is sound, so that [`Store::apply`] makes it. It walks no rules.
+    /// Whether the change is sound, so that [`Store::apply`] makes it. A put of a group walks the groups; nothing walks
+    /// the rules.
     #[tactic(auto, unfolding(ff_headers::specs::Changes::is_sound))]
     pub fn is_sound(&self, change: &Change) -> bool
         ensures { result ≡ is_sound self.now.limits self.now.objects change.now }
@@ -27,11 +29,11 @@ impl Store {
 
     /// Whether a group of another id has the priority. It walks the groups.
     #[tactic(auto, using(crate::proofs::LoopLemmas::any_next, crate::proofs::LoopLemmas::any_found))]
-    pub fn is_taken(&self, id: u32, priority: u16) -> bool
-        ensures { result ≡ is_taken self.now.objects id priority }
+    pub fn is_priority_taken(&self, id: u32, priority: u16) -> bool
+        ensures { result ≡ is_priority_taken self.now.objects id priority }
     {
         for place in 0..self.group_count() {
-            if self.is_taken_at(place, id, priority) {
+            if self.has_priority_at(place, id, priority) {
                 return true;
             }
         }
@@ -39,7 +41,7 @@ impl Store {
     }
 
     /// Whether the group at a place has another id and the priority.
-    fn is_taken_at(&self, place: usize, id: u32, priority: u16) -> bool
+    fn has_priority_at(&self, place: usize, id: u32, priority: u16) -> bool
         ensures { result ≡ option_map_or (λ group. not (group.0 == id) && (group.1 == priority))
             (slice_get self.now.objects.groups place) false }
     {
@@ -52,15 +54,16 @@ impl Store {
     /// Whether there is room for the group, and no other has its priority.
     fn may_put_group(&self, id: u32, priority: u16) -> bool
         ensures { result ≡ (has_room self.now.objects.groups id self.now.limits.groups
-            && not (is_taken self.now.objects id priority)) }
+            && not (is_priority_taken self.now.objects id priority)) }
     {
         let is_held = self.group_priority(id).is_some();
-        has_room(is_held, self.group_count(), self.limits().groups) && !self.is_taken(id, priority)
+        has_room(is_held, self.group_count(), self.limits().groups)
+            && !self.is_priority_taken(id, priority)
     }
 
     /// Whether no rule names the classifier that would be replaced, or there is room for a new one.
     fn may_put_classifier(&self, id: u32) -> bool
-        ensures { result ≡ (if is_some (held self.now.objects.classifiers id)
+        ensures { result ≡ (if is_some (object_under self.now.objects.classifiers id)
             then not (names_classifier self.now.objects id)
             else nat_lt (length self.now.objects.classifiers) self.now.limits.classifiers) }
     {

@@ -2,7 +2,7 @@
 
 ghost use Rattle.std.specs.Prelude.{◌≡◌, ◌↔◌, IsTrue, IfOk, length, slice_get, ◌==◌, false};
 ghost use Rattle.std.specs.Option.{option_copied, option_map, option_map_or};
-ghost use Rattle.ff_headers.specs.Objects.{IsWellFormed, IsById, held, no_objects};
+ghost use Rattle.ff_headers.specs.Objects.{IsWellFormed, IsById, object_under, no_objects};
 ghost use Rattle.ff_headers.specs.Dependents.{rules_in_group, rules_with_classifier, other_rules_in_group};
 ghost use Rattle.res_objects.specs.BoundedMap.{deref_object};
 ghost use Rattle.ff_store.specs.LimitedObjects.{none_within};
@@ -13,7 +13,8 @@ use res_objects::ObjMap;
 use std::alloc::{AllocError, Global};
 use std::marker::Model;
 
-/// Groups, classifiers and rules, within a device's limits.
+/// Groups, classifiers and rules, within a device's limits. They are always well formed: each rule's group and
+/// classifier are held, its key has the classifier's size, and no two groups have one priority.
 #[derive(Drop)]
 pub struct Store {
     pub(crate) limits: Limits,
@@ -84,21 +85,21 @@ impl Store {
 
     /// The priority of a group.
     pub fn group_priority(&self, id: u32) -> Option<u16>
-        ensures { result ≡ held self.now.objects.groups id }
+        ensures { result ≡ object_under self.now.objects.groups id }
     {
         object_of(&self.groups, id).copied()
     }
 
     /// The selectors of a classifier.
     pub fn selectors(&self, id: u32) -> Option<&Selectors>
-        ensures { option_copied result ≡ held self.now.objects.classifiers id }
+        ensures { option_copied result ≡ object_under self.now.objects.classifiers id }
     {
         object_of(&self.classifiers, id)
     }
 
     /// The rule under the id.
     pub fn rule(&self, id: u32) -> Option<&RuleObj>
-        ensures { option_copied result ≡ held self.now.objects.rules id }
+        ensures { option_copied result ≡ object_under self.now.objects.rules id }
     {
         self.rules.query(id)
     }
@@ -150,7 +151,7 @@ impl Store {
 
     /// Whether the rule under the id names the group.
     fn is_in_group(&self, id: u32, group: u32) -> bool
-        ensures value { result ≡ option_map_or (λ rule. rule.group == group) (held self.now.objects.rules id) false }
+        ensures value { result ≡ option_map_or (λ rule. rule.group == group) (object_under self.now.objects.rules id) false }
         ensures rising { IsById self.now.objects.rules }
     {
         match self.rules.query(id) {

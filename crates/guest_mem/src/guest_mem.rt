@@ -40,16 +40,10 @@ impl GuestMem {
         })
     }
 
-    /// What every memory keeps: its numbers are bytes.
-    pub fn keeps(&self)
-        ensures { IsBytes self.now }
-    {
-        let _ = self.bytes.len();
-    }
-
     /// How many bytes there are.
     pub fn len(&self) -> u64
-        ensures { result ≡ length self.now }
+        ensures value { result ≡ length self.now }
+        ensures bytes { IsBytes self.now }
     {
         self.bytes.len() as u64
     }
@@ -70,7 +64,7 @@ impl GuestMem {
     pub fn write(&mut self, addr: u64, bytes: &[u8]) -> Result<(), MemErr>
         ensures answer { result ≡ access_answer self.old addr (length bytes.now) }
         ensures ok { OnOk result (self.new ≡ with_bytes self.old addr bytes.now) }
-        ensures others { OnOk result (WritesAt self.old self.new addr bytes.now) }
+        ensures written { OnOk result (WritesAt self.old self.new addr bytes.now) }
         ensures err { OnErr result (self.new ≡ self.old) }
     {
         self.check(addr, bytes.len() as u64)?;

@@ -8,7 +8,7 @@ use Rattle.std.proofs.lemmas.Option.{get_or_from_slice_get, slice_get_within}
 use Rattle.std.proofs.lemmas.List.Sums.{fold-append}
 use Rattle.ff_headers.specs.Frames.{HeaderBytes}
 use Rattle.ff_headers.specs.Matching.{matches}
-use Rattle.ff_headers.specs.Objects.{FlowObjects, held, IsWellFormed, IsBacked}
+use Rattle.ff_headers.specs.Objects.{FlowObjects, object_under, IsWellFormed, IsBacked}
 use Rattle.ff_headers.specs.Places.{RuleEntry, is_before, rule_matches, least_rule, first_rule}
 use Rattle.ff_headers.specs.RuleParts.{RuleParts}
 use Rattle.ff_headers.specs.SelectorParts.{SelectorParts}
@@ -20,7 +20,7 @@ use Rattle.matcher.specs.declared.scan.Candidate.{Candidate}
 -- ---- one rule
 
 -- the rule's classifier is held, so its selectors decide
-pub rule_matches_by : (objects : FlowObjects) (headers : HeaderBytes) (rule : RuleParts) (selectors : List SelectorParts) (b : Bool) → Some selectors ≡ held objects.classifiers rule.classifier → b ≡ matches selectors rule.key headers → rule_matches objects headers rule ≡ b
+pub rule_matches_by : (objects : FlowObjects) (headers : HeaderBytes) (rule : RuleParts) (selectors : List SelectorParts) (b : Bool) → Some selectors ≡ object_under objects.classifiers rule.classifier → b ≡ matches selectors rule.key headers → rule_matches objects headers rule ≡ b
 unfolding rule_matches
 rule_matches_by objects headers rule selectors b is by = rw (← is, ← by) refl
 

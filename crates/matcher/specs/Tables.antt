@@ -1,7 +1,7 @@
 -- Tables of rules as contracts see them. This project's own.
 use Rattle.std.specs.Prelude.{ℕ}
 use Rattle.ff_headers.specs.Objects.{FlowObjects, no_objects}
-use Rattle.ff_headers.specs.Changes.{step, counted}
+use Rattle.ff_headers.specs.Changes.{step, count_after}
 use Rattle.ff_headers.specs.declared.limits.Limits.{Limits}
 use Rattle.ff_headers.specs.declared.change.Change.{Change}
 
@@ -22,4 +22,4 @@ no_changes limits = tables_with limits no_objects 0
 -- the tables after one more change
 abbrev pub applied : TableState → Change → TableState
 applied tables change =
-    tables_with tables.limits (step tables.limits tables.objects change) (counted tables.count change)
+    tables_with tables.limits (step tables.limits tables.objects change) (count_after tables.count change)

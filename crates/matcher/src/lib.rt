@@ -18,8 +18,6 @@ mod found;
 pub mod laws;
 mod scan;
 mod tables;
-#[cfg(test)]
-mod tests;
 
 pub use found::Found;
 pub use tables::Tables;

@@ -22,5 +22,6 @@ pub mod SpellableLemmas
 pub mod StepLemmas
 pub mod TableLemmas
 pub mod TableReadBack
+pub mod TextLengths
 pub mod ValuesReadBack
 pub mod WordsReadBack

@@ -175,6 +175,11 @@ options_text spec = flat_map (field_text spec) (fields_of spec.flow) ++ (action_
 unfoldable pub spec_text : Spec → List ℕ
 spec_text spec = codes "flow-type " ++ (flow_word spec.flow ++ options_text spec)
 
+-- the bytes of the longest line that a table can have, with its line feed: one of TCP or UDP over IPv6 with a mask at each
+-- field
+abbrev pub longest_line : ℕ
+longest_line = 275
+
 -- the line of what stands at a location
 unfoldable pub slot_text : Option Spec → List ℕ
 slot_text None = []

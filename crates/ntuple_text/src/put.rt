@@ -1,9 +1,9 @@
 //! Specs and tables, written as canonical lines.
-ghost use Rattle.std.specs.Prelude.{◌≡◌, ◌++◌, ◌∷◌, ◌≤◌, []};
+ghost use Rattle.std.specs.Prelude.{◌≡◌, ◌++◌, ◌∷◌, ◌*◌, ◌≤◌, [], length};
 ghost use Rattle.std.specs.List.{flat_map};
 ghost use Rattle.vnff_base.specs.Lines.{word_lines, words_of};
 ghost use Rattle.vnff_base.specs.Outputs.{Writes};
-ghost use Rattle.ntuple_text.specs.SpecTexts.{action_text, field_text, field_word, fields_of, flow_word, given_text, loc_text, mask_text, options_text, part_text, queue_text, skip_text, slot_text, spec_part, spec_text, table_text, value_text};
+ghost use Rattle.ntuple_text.specs.SpecTexts.{action_text, field_text, field_word, fields_of, flow_word, given_text, loc_text, longest_line, mask_text, options_text, part_text, queue_text, skip_text, slot_text, spec_part, spec_text, table_text, value_text};
 ghost use Rattle.ntuple_text.specs.Spellable.{IsSpellable};
 ghost use Rattle.ntuple_text.specs.TableLines.{after_line, table_of};
 ghost use Rattle.ntuple_text.specs.TableMaps.{TableMap, with_spec};
@@ -16,14 +16,17 @@ use vnff_base::{Failed, Out};
 
 /// Writes the lines of a table, by rising location. Read for the same queue pairs, they give the table again.
 pub fn put_table<O: Out>(out: &mut O, table: &Table) -> Result<(), Failed>
-    ensures written { Writes (O.told out.old) (O.told out.new) (O.faults out.old) (O.faults out.new) (table_text table.now) result }
+    ensures written { Writes (O.state out.old) (O.state out.new) (table_text table.now) result }
     ensures read_back { table_of table.now.pairs (word_lines (table_text table.now)) ≡ Ok table.now }
+
+    // Its text isn't too long to be read.
+    ensures short { length (table_text table.now) ≤ 1024 * longest_line }
 {
     put_slots(out, table.slots())
 }
 
 fn put_slots<O: Out>(out: &mut O, slots: &[Option<Spec>]) -> Result<(), Failed>
-    ensures { Writes (O.told out.old) (O.told out.new) (O.faults out.old) (O.faults out.new) (flat_map slot_text slots.now) result }
+    ensures { Writes (O.state out.old) (O.state out.new) (flat_map slot_text slots.now) result }
 {
     for slot in slots {
         put_slot(out, slot)?;
@@ -34,7 +37,7 @@ fn put_slots<O: Out>(out: &mut O, slots: &[Option<Spec>]) -> Result<(), Failed>
 // Writes the line of what stands at a location.
 #[tactic(auto, unfolding(crate::specs::SpecTexts::slot_text))]
 fn put_slot<O: Out>(out: &mut O, slot: &Option<Spec>) -> Result<(), Failed>
-    ensures { Writes (O.told out.old) (O.told out.new) (O.faults out.old) (O.faults out.new) (slot_text slot.now) result }
+    ensures { Writes (O.state out.old) (O.state out.new) (slot_text slot.now) result }
 {
     match slot {
         Some(spec) => put_line(out, spec),
@@ -43,7 +46,7 @@ fn put_slot<O: Out>(out: &mut O, slot: &Option<Spec>) -> Result<(), Failed>
 }
 
 fn put_line<O: Out>(out: &mut O, spec: &Spec) -> Result<(), Failed>
-    ensures { Writes (O.told out.old) (O.told out.new) (O.faults out.old) (O.faults out.new) (spec_text spec.now ++ 10 ∷ []) result }
+    ensures { Writes (O.state out.old) (O.state out.new) (spec_text spec.now ++ 10 ∷ []) result }
 {
     put_spec(out, spec)?;
     out.put(b"\n")
@@ -53,7 +56,7 @@ fn put_line<O: Out>(out: &mut O, spec: &Spec) -> Result<(), Failed>
 /// action and the location, with single spaces. A mask is written where it skips a bit.
 #[tactic(auto, unfolding(crate::specs::SpecTexts::spec_text))]
 pub fn put_spec<O: Out>(out: &mut O, spec: &Spec) -> Result<(), Failed>
-    ensures written { Writes (O.told out.old) (O.told out.new) (O.faults out.old) (O.faults out.new) (spec_text spec.now) result }
+    ensures written { Writes (O.state out.old) (O.state out.new) (spec_text spec.now) result }
 
     // The line of a spec that lines can spell puts just this spec into any table.
     ensures read_back { (table : TableMap) → table.pairs ≤ 16 → IsSpellable table.pairs spec.now
@@ -66,7 +69,7 @@ pub fn put_spec<O: Out>(out: &mut O, spec: &Spec) -> Result<(), Failed>
 
 #[tactic(auto, unfolding(crate::specs::SpecTexts::flow_word))]
 fn put_flow<O: Out>(out: &mut O, flow: Flow) -> Result<(), Failed>
-    ensures { Writes (O.told out.old) (O.told out.new) (O.faults out.old) (O.faults out.new) (flow_word flow) result }
+    ensures { Writes (O.state out.old) (O.state out.new) (flow_word flow) result }
 {
     match flow {
         Flow::Ether => out.put(b"ether"),
@@ -81,7 +84,7 @@ fn put_flow<O: Out>(out: &mut O, flow: Flow) -> Result<(), Failed>
 
 #[tactic(auto, unfolding(crate::specs::SpecTexts::options_text))]
 fn put_options<O: Out>(out: &mut O, spec: &Spec) -> Result<(), Failed>
-    ensures { Writes (O.told out.old) (O.told out.new) (O.faults out.old) (O.faults out.new) (options_text spec.now) result }
+    ensures { Writes (O.state out.old) (O.state out.new) (options_text spec.now) result }
 {
     put_fields(out, spec)?;
     put_action(out, spec.action)?;
@@ -89,13 +92,13 @@ fn put_options<O: Out>(out: &mut O, spec: &Spec) -> Result<(), Failed>
 }
 
 fn put_fields<O: Out>(out: &mut O, spec: &Spec) -> Result<(), Failed>
-    ensures { Writes (O.told out.old) (O.told out.new) (O.faults out.old) (O.faults out.new) (flat_map (field_text spec.now) (fields_of spec.now.flow)) result }
+    ensures { Writes (O.state out.old) (O.state out.new) (flat_map (field_text spec.now) (fields_of spec.now.flow)) result }
 {
     put_each(out, spec, fields(spec.flow))
 }
 
 fn put_each<O: Out>(out: &mut O, spec: &Spec, fields: &[Field]) -> Result<(), Failed>
-    ensures { Writes (O.told out.old) (O.told out.new) (O.faults out.old) (O.faults out.new) (flat_map (field_text spec.now) fields.now) result }
+    ensures { Writes (O.state out.old) (O.state out.new) (flat_map (field_text spec.now) fields.now) result }
 {
     for field in fields {
         put_field(out, spec, *field)?;
@@ -136,7 +139,7 @@ fn fields(flow: Flow) -> &'static [Field]
 
 #[tactic(auto, unfolding(crate::specs::SpecTexts::field_text))]
 fn put_field<O: Out>(out: &mut O, spec: &Spec, field: Field) -> Result<(), Failed>
-    ensures { Writes (O.told out.old) (O.told out.new) (O.faults out.old) (O.faults out.new) (field_text spec.now field) result }
+    ensures { Writes (O.state out.old) (O.state out.new) (field_text spec.now field) result }
 {
     put_given(out, spec.flow, field, part(spec, field))
 }
@@ -147,7 +150,7 @@ fn put_given<O: Out>(
     field: Field,
     part: Option<Part>,
 ) -> Result<(), Failed>
-    ensures { Writes (O.told out.old) (O.told out.new) (O.faults out.old) (O.faults out.new) (given_text flow field part) result }
+    ensures { Writes (O.state out.old) (O.state out.new) (given_text flow field part) result }
 {
     match part {
         Some(part) => put_part(out, flow, field, part),
@@ -171,7 +174,7 @@ fn part(spec: &Spec, field: Field) -> Option<Part>
 
 #[tactic(auto, unfolding(crate::specs::SpecTexts::part_text))]
 fn put_part<O: Out>(out: &mut O, flow: Flow, field: Field, part: Part) -> Result<(), Failed>
-    ensures { Writes (O.told out.old) (O.told out.new) (O.faults out.old) (O.faults out.new) (part_text flow field part) result }
+    ensures { Writes (O.state out.old) (O.state out.new) (part_text flow field part) result }
 {
     put_field_word(out, field)?;
     put_value(out, flow, field, part.value)?;
@@ -180,7 +183,7 @@ fn put_part<O: Out>(out: &mut O, flow: Flow, field: Field, part: Part) -> Result
 
 #[tactic(auto, unfolding(crate::specs::SpecTexts::field_word))]
 fn put_field_word<O: Out>(out: &mut O, field: Field) -> Result<(), Failed>
-    ensures { Writes (O.told out.old) (O.told out.new) (O.faults out.old) (O.faults out.new) (field_word field) result }
+    ensures { Writes (O.state out.old) (O.state out.new) (field_word field) result }
 {
     match field {
         Field::SrcMac => out.put(b" src "),
@@ -198,7 +201,7 @@ fn put_field_word<O: Out>(out: &mut O, field: Field) -> Result<(), Failed>
 
 #[tactic(auto, unfolding(crate::specs::SpecTexts::mask_text))]
 fn put_mask<O: Out>(out: &mut O, flow: Flow, field: Field, mask: u128) -> Result<(), Failed>
-    ensures { Writes (O.told out.old) (O.told out.new) (O.faults out.old) (O.faults out.new) (mask_text flow field mask) result }
+    ensures { Writes (O.state out.old) (O.state out.new) (mask_text flow field mask) result }
 {
     if mask == 0 {
         Ok(())
@@ -209,7 +212,7 @@ fn put_mask<O: Out>(out: &mut O, flow: Flow, field: Field, mask: u128) -> Result
 
 #[tactic(auto, unfolding(crate::specs::SpecTexts::skip_text))]
 fn put_skip<O: Out>(out: &mut O, flow: Flow, field: Field, mask: u128) -> Result<(), Failed>
-    ensures { Writes (O.told out.old) (O.told out.new) (O.faults out.old) (O.faults out.new) (skip_text flow field mask) result }
+    ensures { Writes (O.state out.old) (O.state out.new) (skip_text flow field mask) result }
 {
     out.put(b" m ")?;
     put_value(out, flow, field, mask)
@@ -217,7 +220,7 @@ fn put_skip<O: Out>(out: &mut O, flow: Flow, field: Field, mask: u128) -> Result
 
 #[tactic(auto, unfolding(crate::specs::SpecTexts::value_text))]
 fn put_value<O: Out>(out: &mut O, flow: Flow, field: Field, value: u128) -> Result<(), Failed>
-    ensures { Writes (O.told out.old) (O.told out.new) (O.faults out.old) (O.faults out.new) (value_text flow field value) result }
+    ensures { Writes (O.state out.old) (O.state out.new) (value_text flow field value) result }
 {
     match field {
         Field::SrcMac | Field::DstMac => put_mac(out, value),
@@ -229,7 +232,7 @@ fn put_value<O: Out>(out: &mut O, flow: Flow, field: Field, value: u128) -> Resu
 
 #[tactic(auto, unfolding(crate::specs::SpecTexts::action_text))]
 fn put_action<O: Out>(out: &mut O, action: TableDo) -> Result<(), Failed>
-    ensures { Writes (O.told out.old) (O.told out.new) (O.faults out.old) (O.faults out.new) (action_text action) result }
+    ensures { Writes (O.state out.old) (O.state out.new) (action_text action) result }
 {
     match action {
         TableDo::Drop => out.put(b" action -1"),
@@ -239,7 +242,7 @@ fn put_action<O: Out>(out: &mut O, action: TableDo) -> Result<(), Failed>
 
 #[tactic(auto, unfolding(crate::specs::SpecTexts::queue_text))]
 fn put_queue<O: Out>(out: &mut O, queue: u8) -> Result<(), Failed>
-    ensures { Writes (O.told out.old) (O.told out.new) (O.faults out.old) (O.faults out.new) (queue_text queue) result }
+    ensures { Writes (O.state out.old) (O.state out.new) (queue_text queue) result }
 {
     out.put(b" action ")?;
     put_number(out, u128::from(queue))
@@ -247,7 +250,7 @@ fn put_queue<O: Out>(out: &mut O, queue: u8) -> Result<(), Failed>
 
 #[tactic(auto, unfolding(crate::specs::SpecTexts::loc_text))]
 fn put_loc<O: Out>(out: &mut O, loc: u16) -> Result<(), Failed>
-    ensures { Writes (O.told out.old) (O.told out.new) (O.faults out.old) (O.faults out.new) (loc_text loc) result }
+    ensures { Writes (O.state out.old) (O.state out.new) (loc_text loc) result }
 {
     out.put(b" loc ")?;
     put_number(out, u128::from(loc))

@@ -12,7 +12,7 @@ use vnff_base::{Failed, Out, hex_digit};
 /// Writes a value in its form.
 #[tactic(auto, unfolding(crate::specs::SpecTexts::form_text))]
 pub(crate) fn put_form<O: Out>(out: &mut O, form: Form, value: u128) -> Result<(), Failed>
-    ensures { Writes (O.told out.old) (O.told out.new) (O.faults out.old) (O.faults out.new) (form_text form value) result }
+    ensures { Writes (O.state out.old) (O.state out.new) (form_text form value) result }
 {
     match form {
         Form::Mac => put_mac(out, value),
@@ -24,7 +24,7 @@ pub(crate) fn put_form<O: Out>(out: &mut O, form: Form, value: u128) -> Result<(
 
 /// Writes a number in decimal.
 pub(crate) fn put_number<O: Out>(out: &mut O, number: u128) -> Result<(), Failed>
-    ensures { Writes (O.told out.old) (O.told out.new) (O.faults out.old) (O.faults out.new) (decimal number) result }
+    ensures { Writes (O.state out.old) (O.state out.new) (decimal number) result }
 {
     let mut buffer = Buffer::new();
     out.put(buffer.format(number).as_bytes())
@@ -33,7 +33,7 @@ pub(crate) fn put_number<O: Out>(out: &mut O, number: u128) -> Result<(), Failed
 /// Writes an Ethernet type: `0x` and four digits.
 #[tactic(auto, unfolding(crate::specs::SpecTexts::type_text))]
 pub(crate) fn put_type<O: Out>(out: &mut O, value: u128) -> Result<(), Failed>
-    ensures { Writes (O.told out.old) (O.told out.new) (O.faults out.old) (O.faults out.new) (type_text value) result }
+    ensures { Writes (O.state out.old) (O.state out.new) (type_text value) result }
 {
     let [first, second, third, fourth] = digits(value);
     out.put(&[b'0', b'x', first, second, third, fourth])
@@ -42,7 +42,7 @@ pub(crate) fn put_type<O: Out>(out: &mut O, value: u128) -> Result<(), Failed>
 /// Writes a MAC address: six groups of two digits.
 #[tactic(auto, unfolding(crate::specs::SpecTexts::mac_text))]
 pub(crate) fn put_mac<O: Out>(out: &mut O, address: u128) -> Result<(), Failed>
-    ensures { Writes (O.told out.old) (O.told out.new) (O.faults out.old) (O.faults out.new) (mac_text address) result }
+    ensures { Writes (O.state out.old) (O.state out.new) (mac_text address) result }
 {
     let rest = [
         (address / 0x1_0000_0000 % 256) as u16,
@@ -57,7 +57,7 @@ pub(crate) fn put_mac<O: Out>(out: &mut O, address: u128) -> Result<(), Failed>
 
 #[tactic(auto, unfolding(crate::specs::SpecTexts::ipv4_text))]
 fn put_ipv4<O: Out>(out: &mut O, address: u128) -> Result<(), Failed>
-    ensures { Writes (O.told out.old) (O.told out.new) (O.faults out.old) (O.faults out.new) (ipv4_text address) result }
+    ensures { Writes (O.state out.old) (O.state out.new) (ipv4_text address) result }
 {
     let rest = [
         (address / 0x1_0000 % 256) as u16,
@@ -70,7 +70,7 @@ fn put_ipv4<O: Out>(out: &mut O, address: u128) -> Result<(), Failed>
 
 #[tactic(auto, unfolding(crate::specs::SpecTexts::ipv6_text))]
 fn put_ipv6<O: Out>(out: &mut O, address: u128) -> Result<(), Failed>
-    ensures { Writes (O.told out.old) (O.told out.new) (O.faults out.old) (O.faults out.new) (ipv6_text address) result }
+    ensures { Writes (O.state out.old) (O.state out.new) (ipv6_text address) result }
 {
     let rest = [
         (address / 0x1_0000_0000_0000_0000_0000_0000 % 0x1_0000) as u16,
@@ -93,7 +93,7 @@ fn put_pieces<O: Out>(
     first: u16,
     rest: &[u16],
 ) -> Result<(), Failed>
-    ensures { Writes (O.told out.old) (O.told out.new) (O.faults out.old) (O.faults out.new) (pieces_text spelling separator first rest.now) result }
+    ensures { Writes (O.state out.old) (O.state out.new) (pieces_text spelling separator first rest.now) result }
 {
     put_piece(out, spelling, first)?;
     put_rest(out, spelling, separator, rest)
@@ -105,7 +105,7 @@ fn put_rest<O: Out>(
     separator: u8,
     rest: &[u16],
 ) -> Result<(), Failed>
-    ensures { Writes (O.told out.old) (O.told out.new) (O.faults out.old) (O.faults out.new) (flat_map (next_piece spelling separator) rest.now) result }
+    ensures { Writes (O.state out.old) (O.state out.new) (flat_map (next_piece spelling separator) rest.now) result }
 {
     for piece in rest {
         put_next(out, spelling, separator, *piece)?;
@@ -119,7 +119,7 @@ fn put_next<O: Out>(
     separator: u8,
     piece: u16,
 ) -> Result<(), Failed>
-    ensures { Writes (O.told out.old) (O.told out.new) (O.faults out.old) (O.faults out.new) (next_piece spelling separator piece) result }
+    ensures { Writes (O.state out.old) (O.state out.new) (next_piece spelling separator piece) result }
 {
     out.put(&[separator])?;
     put_piece(out, spelling, piece)
@@ -127,7 +127,7 @@ fn put_next<O: Out>(
 
 #[tactic(auto, unfolding(crate::specs::SpecTexts::piece_text))]
 fn put_piece<O: Out>(out: &mut O, spelling: Spelling, piece: u16) -> Result<(), Failed>
-    ensures { Writes (O.told out.old) (O.told out.new) (O.faults out.old) (O.faults out.new) (piece_text spelling piece) result }
+    ensures { Writes (O.state out.old) (O.state out.new) (piece_text spelling piece) result }
 {
     let piece = u128::from(piece);
     match spelling {
@@ -140,7 +140,7 @@ fn put_piece<O: Out>(out: &mut O, spelling: Spelling, piece: u16) -> Result<(), 
 // Writes the four digits of a number but the first few.
 fn put_from<O: Out>(out: &mut O, number: u128, skipped: usize) -> Result<(), Failed>
     requires { skipped < 4 }
-    ensures { Writes (O.told out.old) (O.told out.new) (O.faults out.old) (O.faults out.new) (drop skipped (four_digits number)) result }
+    ensures { Writes (O.state out.old) (O.state out.new) (drop skipped (four_digits number)) result }
 {
     let digits = digits(number);
     out.put(&digits[skipped..])

@@ -1,4 +1,5 @@
--- A finite map of bounded size, as contracts see an `ObjMap`: its entries by rising id, and its room. This project's own.
+-- A finite map of bounded size, as contracts see an `ObjMap`: its entries by rising id, and its room. This project's
+-- own.
 use Rattle.std.specs.Prelude.{ℕ, ◌≤◌, Option, List, length, refl}
 use Rattle.std.specs.Borrow.{Bor}
 use Rattle.std.specs.BTreeMap.{insert_entry, is_at}
@@ -15,7 +16,11 @@ pub record BoundedMap (T : Type 0) : Type 0 where
 -- a bounded map is stored as the pair of its fields
 abbrev pub bounded_map_code : {T : Type 0} → Coded T → Coded (BoundedMap T)
 bounded_map_code {T} code =
-    code_by (List (ℕ × T) × ℕ) (coded× (coded_list (coded× coded_ℕ code)) coded_ℕ) (λ m. (m.entries, m.room)) (λ p. record { entries = p.0; room = p.1 }) (λ _. refl)
+    code_by (List (ℕ × T) × ℕ) (coded× (coded_list (coded× coded_ℕ code)) coded_ℕ) (λ m. (m.entries, m.room)) (λ p. record {
+      entries =
+          p.0;
+      room = p.1;
+    }) (λ _. refl)
 
 module _ {T : Type 0} where
   -- the object that is held under the id

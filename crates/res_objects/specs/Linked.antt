@@ -21,7 +21,11 @@ pub record SlotTable (T : Type 0) : Type 0 where
 -- a table is stored as the pair of its fields
 abbrev pub slot_table_code : {T : Type 0} → Coded T → Coded (SlotTable T)
 slot_table_code {T} code =
-    code_by (List (Option T) × ℕ) (coded× (coded_list (coded_option code)) coded_ℕ) (λ t. (t.cells, t.room)) (λ p. record { cells = p.0; room = p.1 }) (λ _. refl)
+    code_by (List (Option T) × ℕ) (coded× (coded_list (coded_option code)) coded_ℕ) (λ t. (t.cells, t.room)) (λ p. record {
+      cells =
+          p.0;
+      room = p.1;
+    }) (λ _. refl)
 
 module _ {T : Type 0} where
   -- the object in a slot; a slot that was never used has none
@@ -49,10 +53,11 @@ module _ {T : Type 0} where
   -- each slot of the list is a used one that holds nothing, and none stands there twice
   abbrev pub IsFreeList : List (Option T) → List ℕ → Type 0
   IsFreeList cells [] = ⊤
-  IsFreeList cells (slot ∷ slots) = (slot < length cells) × (object_in cells slot ≡ None) × AllByRecursion (λ other. other ≢ slot) slots × IsFreeList cells slots
+  IsFreeList cells (slot ∷ slots) =
+      (slot < length cells) × (object_in cells slot ≡ None) × AllByRecursion (λ other. other ≢ slot) slots × IsFreeList cells slots
 
-  -- the invariant of the slots: with the free list's, those that hold an object are all that were ever used, there is room
-  -- for all of them in the list, and their numbers are below 2^32
+  -- the invariant of the slots: with the free list's, those that hold an object are all that were ever used, there is
+  -- room for all of them in the list, and their numbers are below 2^32
   pub record HasFree (cells : List (Option T)) (free : List ℕ) (room free_room : ℕ) : Type 0 where
     pub listed : IsFreeList cells free
     pub counted : held_count cells + length free ≡ length cells
@@ -60,8 +65,8 @@ module _ {T : Type 0} where
     pub free_fits : room ≤ free_room
     pub numbered : room ≤ 2 ^ 32
 
--- the invariant of a map: the index is in order and linked to the slots, both count the same objects, and both have room
--- for as many of them as the map, or as there are ids
+-- the invariant of a map: the index is in order and linked to the slots, both count the same objects, and both have
+-- room for as many of them as the map, or as there are ids
 pub record IsObjects {T : Type 0} (index : SlotIndex) (table : SlotTable T) (room : ℕ) : Type 0 where
   pub ordered : IsStrictlySortedBy nat_cmp (keys_of index.slots)
   pub linked : IsLinked (object_in table.cells) index.slots

@@ -2,23 +2,26 @@
 use Rattle.std.proofs.Common.{◌≡◌, ℕ, ◌+◌, ◌-◌, ◌^◌, ◌<◌, ◌≤◌, ◌⊎◌, inl, inr, List, length, reverse, get_or, Some, Ok, refl, sym, ap, ◌∙◌, subst, arith}
 use Rattle.std.specs.Int.{from_le_bytes, w16}
 use Rattle.std.specs.List.{All}
-use Rattle.std.proofs.lemmas.Bool.{cases_lt}
 use Rattle.std.proofs.lemmas.List.{length-reverse, get_or-reverse}
-use Rattle.std.proofs.lemmas.List.Elements.{All-weaker}
-use Rattle.guest_mem.specs.Memory.{bytes_at}
-use Rattle.split_queue.specs.Layout.{ChangesOnly, le16_at, table_bytes, available_bytes, used_bytes, used_idx_addr}
-use Rattle.split_queue.specs.Setup.{IsPlaced}
-use Rattle.split_queue.specs.Pools.{owner_of}
-use Rattle.split_queue.specs.Rings.{QueueEnd, fresh_end, index_after, after_pop, after_push, with_used}
-use Rattle.split_queue.specs.Scatter.{IsApartFrom, ChangesOnlyPieces}
-use Rattle.split_queue.specs.Drivers.{DriverState, IsEnd, ClearsRings, given, with_descriptors, posted, after_given, after_post, taken, after_take}
-use Rattle.split_queue.specs.Agreement.{Agree, IsOutsideQueue, IsClearOf, KeepsQueue, IsRound}
-use Rattle.split_queue.specs.declared.place.Place.{Place}
+use Rattle.guest_mem.specs.Memory.{bytes_at, ChangesOnly}
+use Rattle.guest_mem.proofs.Bytes.{get_or-bytes_at}
+use Rattle.guest_mem.proofs.Changes.{changes-wider}
+use Rattle.split_queue.specs.Agreement.{Agree, IsInQueue, IsClearOf, KeepsQueue, Round, IsRound, after_round}
+use Rattle.split_queue.specs.Chains.{IsInPieces}
+use Rattle.split_queue.specs.Descriptors.{le16_at}
+use Rattle.split_queue.specs.DeviceEnds.{DeviceEndState, device_start, after_pop, after_push}
+use Rattle.split_queue.specs.DriverEnds.{DriverEndState, IsValidDriver, chain_numbers, with_descriptors, with_post, pool_after_post, after_post, take_answer, after_take}
+use Rattle.split_queue.specs.QueuePlaces.{available_idx_addr, available_bytes, used_bytes, used_idx_addr}
+use Rattle.split_queue.specs.Pools.{owner_of, first_free}
+use Rattle.split_queue.specs.Rings.{index_after, with_used_entry, ClearsRings}
+use Rattle.split_queue.specs.Setup.{IsInArea, table_area, available_area, used_area, LieApart, IsPlaced}
+use Rattle.split_queue.specs.declared.queue_place.Place.{Place}
 use Rattle.split_queue.specs.declared.chain.Piece.{Piece}
-use Rattle.split_queue.proofs.FreedLaws.{freed-enough}
+use Rattle.split_queue.specs.declared.setup.Area.{Area}
+use Rattle.split_queue.proofs.ReleaseLaws.{after_release-free}
 use Rattle.split_queue.proofs.PoolLaws.{free_at}
-use Rattle.split_queue.proofs.ReadLaws.{get_or-bytes_at, le16_at-same, le16_at-outside}
-use Rattle.split_queue.proofs.RingLaws.{index_after-small, with_descriptors-changes, with_available-changes, with_available-idx, HasElement, with_used-changes, with_used-element, free-below, first-is-owned, post-accepted, taken-element}
+use Rattle.split_queue.proofs.ReadLaws.{le16_at-same, le16_at-outside}
+use Rattle.split_queue.proofs.RingLaws.{index_after-small, with_descriptors-changes, with_available_entry-changes, with_available_entry-idx, HasElement, with_used_entry-changes, with_used_entry-element, free-below, first-is-owned, post-accepted, take_answer-element}
 
 -- ---- a fresh queue
 
@@ -30,14 +33,14 @@ unfolding le16_at
 le16_at-zero mem addr zero = zero-from_bytes (bytes_at mem addr 2) (get_or-bytes_at mem addr 2 0 (omega arith) ∙ zero (addr + 0) (omega arith) (omega arith)) (get_or-bytes_at mem addr 2 1 (omega arith) ∙ zero (addr + 1) (omega arith) (omega arith))
 
 -- a driver's fresh end, and the device's whose indexes start at 0
-pub fresh-agree : (end : DriverState) (before mem : List ℕ) → ClearsRings before mem end.place → end.mem_len ≡ length mem → end.next ≡ 0 → end.used ≡ 0 → Agree end (fresh_end end.place (length mem) 0) mem
+pub fresh-agree : (end : DriverEndState) (before mem : List ℕ) → ClearsRings before mem end.place → end.mem_len ≡ length mem → end.next ≡ 0 → end.used ≡ 0 → Agree end (device_start end.place (length mem) 0) mem
 fresh-agree end before mem clears size next used = record {
   place = refl;
   driver_memory = size;
   device_memory = refl;
-  available_idx = le16_at-zero mem (end.place.avail + 2) (λ k low high. clears.available k (omega arith) (omega arith)) ∙ sym next;
+  available_idx = le16_at-zero mem (available_idx_addr end.place) (λ k low high. clears.zeros k (inl (omega arith, omega arith))) ∙ sym next;
   available_next = sym next;
-  used_idx = le16_at-zero mem (end.place.used + 2) (λ k low high. clears.used k (omega arith) (omega arith)) ∙ sym used;
+  used_idx = le16_at-zero mem (used_idx_addr end.place) (λ k low high. clears.zeros k (inr (omega arith, omega arith))) ∙ sym used;
   used_next = sym used;
   available_small = omega (arith, next);
   used_small = omega (arith, used);
@@ -46,82 +49,72 @@ fresh-agree end before mem clears size next used = record {
 -- ---- bytes outside of the queue
 
 -- what keeps the bytes of the queue keeps the agreement
-pub agree-kept : (driver : DriverState) (device : QueueEnd) (before after : List ℕ) → Agree driver device before → KeepsQueue before after driver.place → Agree driver device after
+pub agree-kept : (driver : DriverEndState) (device : DeviceEndState) (before after : List ℕ) → Agree driver device before → KeepsQueue before after driver.place → Agree driver device after
 agree-kept driver device before after agree kept = record {
   place = agree.place;
   driver_memory = agree.driver_memory ∙ sym kept.size;
   device_memory = agree.device_memory ∙ sym kept.size;
-  available_idx = le16_at-same before after (driver.place.avail + 2) kept.size (λ k low high. kept.available k (omega arith) (omega arith)) ∙ agree.available_idx;
+  available_idx = le16_at-same before after (available_idx_addr driver.place) kept.size (λ k low high. kept.others k (λ outside. outside (inr (inl (omega arith, omega arith))))) ∙ agree.available_idx;
   available_next = agree.available_next;
-  used_idx = le16_at-same before after (driver.place.used + 2) kept.size (λ k low high. kept.used k (omega arith) (omega arith)) ∙ agree.used_idx;
+  used_idx = le16_at-same before after (used_idx_addr driver.place) kept.size (λ k low high. kept.others k (λ outside. outside (inr (inr (omega arith, omega arith))))) ∙ agree.used_idx;
   used_next = agree.used_next;
   available_small = agree.available_small;
   used_small = agree.used_small;
 }
 
--- an address of the queue lies in no piece that is clear of it
-apart-from-clear : (place : Place) (pieces : List Piece) (addr : ℕ) → All (IsClearOf place) pieces → (IsOutsideQueue place addr → ⊥) → IsApartFrom pieces addr
-apart-from-clear place pieces addr clear inside =
-    All-weaker (IsClearOf place) (λ p. (addr < p.addr) ⊎ (p.addr + p.len ≤ addr)) (λ p away. elim (cases_lt addr p.addr) [
-      | inl before ↦ inl before
-      | inr from ↦ elim (cases_lt addr (p.addr + p.len)) [ inl within ↦ absurd (inside (away addr from within)) | inr past ↦ inr past ]
-    ]) pieces clear
+-- a byte of pieces that are clear of the queue is none of the queue's
+clear-outside : (place : Place) (pieces : List Piece) → All (IsClearOf place) pieces → (addr : ℕ) → IsInPieces pieces addr → ¬ IsInQueue place addr
+clear-outside place pieces clear addr (k, piece, below, is, inside) =
+    let clear_here : IsClearOf place piece = rw is at (clear k piece below) in
+    clear_here addr inside
 
-within-not-outside : (addr start count : ℕ) → start ≤ addr → addr < start + count → (addr < start) ⊎ (start + count ≤ addr) → ⊥
-within-not-outside addr start count low high out = elim out [ inl l ↦ omega arith | inr r ↦ omega arith ]
-
-pub pieces-keep : (before after : List ℕ) (place : Place) (pieces : List Piece) → ChangesOnlyPieces before after pieces → All (IsClearOf place) pieces → KeepsQueue before after place
-pieces-keep before after place pieces changes clear = record {
-  size = changes.size;
-  table = λ addr low high. changes.others addr (apart-from-clear place pieces addr clear (λ out. within-not-outside addr place.desc (table_bytes place.size) low high out.table));
-  available = λ addr low high. changes.others addr (apart-from-clear place pieces addr clear (λ out. within-not-outside addr place.avail (available_bytes place.size) low high out.available));
-  used = λ addr low high. changes.others addr (apart-from-clear place pieces addr clear (λ out. within-not-outside addr place.used (used_bytes place.size) low high out.used));
-}
+pub pieces-keep : (before after : List ℕ) (place : Place) (pieces : List Piece) → ChangesOnly before after (IsInPieces pieces) → All (IsClearOf place) pieces → KeepsQueue before after place
+pieces-keep before after place pieces changes clear = changes-wider before after (IsInPieces pieces) (λ addr. ¬ IsInQueue place addr) (clear-outside place pieces clear) changes
 
 -- ---- a round
 
 -- a number in one area is as it was where only another area was changed
-le16_at-apart : (before after : List ℕ) (start count other many addr : ℕ) → ChangesOnly before after start count → (start + count ≤ other) ⊎ (other + many ≤ start) → other ≤ addr → addr + 2 ≤ other + many → le16_at after addr ≡ le16_at before addr
-le16_at-apart before after start count other many addr changes apart low high = le16_at-outside before after start count addr changes (elim apart [ inl l ↦ inr (omega arith) | inr r ↦ inl (omega arith) ])
+le16_at-apart : (before after : List ℕ) (one other : Area) (addr : ℕ) → ChangesOnly before after (IsInArea one) → LieApart one other → other.start ≤ addr → addr + 2 ≤ other.start + other.len → le16_at after addr ≡ le16_at before addr
+le16_at-apart before after one other addr changes apart low high = le16_at-outside before after one.start one.len addr changes (elim apart [ inl l ↦ inr (omega arith) | inr r ↦ inl (omega arith) ])
 
 flipped : {A B : Type 0} → A ⊎ B → B ⊎ A
 flipped either = elim either [ inl a ↦ inr a | inr b ↦ inl b ]
 
 -- after a post and the pop of its chain
-module _ (driver : DriverState) (device : QueueEnd) (end : IsEnd driver) (before : List ℕ) (pieces : List Piece) (readable : ℕ) (agree : Agree driver device before) where
+module _ (driver : DriverEndState) (device : DeviceEndState) (end : IsValidDriver driver) (before : List ℕ) (pieces : List Piece) (readable : ℕ) (agree : Agree driver device before) where
   abbrev place : Place
   place = driver.place
 
   abbrev numbers : List ℕ
-  numbers = given (length pieces) driver.pool.free
+  numbers = chain_numbers (length pieces) driver.pool.free
 
-  abbrev described : List ℕ
-  described = with_descriptors before place numbers pieces readable
+  abbrev table_memory : List ℕ
+  table_memory = with_descriptors before place numbers pieces readable
 
-  abbrev after : List ℕ
-  after = posted before driver pieces readable
+  abbrev post_memory : List ℕ
+  post_memory = with_post before driver pieces readable
 
-  table-changes : ChangesOnly before described place.desc (table_bytes place.size)
+  table-changes : ChangesOnly before table_memory (IsInArea (table_area place))
   table-changes =
-      let below = subst (λ size. All (λ n. n < size) numbers) end.valid.sized (free-below driver.pool.owners driver.pool.free (length pieces) end.listed) in
+      let below = subst (λ size. All (λ n. n < size) numbers) end.valid.same_size (free-below driver.pool.owners driver.pool.free (length pieces) end.free_list) in
       with_descriptors-changes place numbers pieces readable before (omega (arith, end.valid.placed.table, agree.driver_memory)) below
 
-  available-inside : place.avail + available_bytes place.size ≤ length described
+  available-inside : place.avail + available_bytes place.size ≤ length table_memory
   available-inside = omega (arith, end.valid.placed.available, agree.driver_memory, table-changes.size)
 
-  slot-changes : ChangesOnly described after place.avail (available_bytes place.size)
-  slot-changes = with_available-changes described place driver.next (get_or (reverse driver.pool.free) 0 0) end.valid.placed.some available-inside
+  slot-changes : ChangesOnly table_memory post_memory (IsInArea (available_area place))
+  slot-changes = with_available_entry-changes table_memory place driver.next (first_free driver.pool.free) end.valid.placed.some available-inside
 
-  pub posted-agree : Agree (after_post driver (length pieces)) (after_pop device) after
-  posted-agree = record {
+  pub with_post-agree : Agree (after_post driver (length pieces)) (after_pop device) post_memory
+  with_post-agree = record {
     place = agree.place;
     driver_memory = agree.driver_memory ∙ sym (slot-changes.size ∙ table-changes.size);
     device_memory = agree.device_memory ∙ sym (slot-changes.size ∙ table-changes.size);
-    available_idx = with_available-idx described place driver.next (get_or (reverse driver.pool.free) 0 0) end.valid.placed.some available-inside;
+    available_idx = with_available_entry-idx table_memory place driver.next (first_free driver.pool.free) end.valid.placed.some available-inside;
     available_next = ap index_after agree.available_next;
     used_idx =
-        le16_at-apart described after place.avail (available_bytes place.size) place.used (used_bytes place.size) (used_idx_addr place) slot-changes end.valid.placed.available_used (omega arith) (omega arith)
-        ∙ le16_at-apart before described place.desc (table_bytes place.size) place.used (used_bytes place.size) (used_idx_addr place) table-changes end.valid.placed.table_used (omega arith) (omega arith)
+        le16_at-apart table_memory post_memory (available_area place) (used_area place) (used_idx_addr place) slot-changes end.valid.placed.available_used (omega arith) (omega arith)
+        ∙ le16_at-apart before table_memory (table_area place) (used_area place) (used_idx_addr place) table-changes end.valid.placed.table_used (omega arith) (omega arith)
         ∙ agree.used_idx;
     used_next = agree.used_next;
     available_small = index_after-small driver.next;
@@ -129,25 +122,25 @@ module _ (driver : DriverState) (device : QueueEnd) (end : IsEnd driver) (before
   }
 
 -- after a push and the take of its element
-module _ (driver : DriverState) (device : QueueEnd) (placed : IsPlaced driver.place driver.mem_len) (written : List ℕ) (agree : Agree driver device written) (first len : ℕ) where
-  abbrev returned : List ℕ
-  returned = with_used written driver.place driver.used first len
+module _ (driver : DriverEndState) (device : DeviceEndState) (placed : IsPlaced driver.place driver.mem_len) (mem : List ℕ) (agree : Agree driver device mem) (head len : ℕ) where
+  abbrev push_memory : List ℕ
+  push_memory = with_used_entry mem driver.place driver.used head len
 
-  used-inside : driver.place.used + used_bytes driver.place.size ≤ length written
+  used-inside : driver.place.used + used_bytes driver.place.size ≤ length mem
   used-inside = omega (arith, placed.used, agree.driver_memory)
 
-  element-changes : ChangesOnly written returned driver.place.used (used_bytes driver.place.size)
-  element-changes = with_used-changes written driver.place driver.used first len placed.some used-inside
+  element-changes : ChangesOnly mem push_memory (IsInArea (used_area driver.place))
+  element-changes = with_used_entry-changes mem driver.place driver.used head len placed.some used-inside
 
-  pub returned-element : first < 2 ^ 32 → len < 2 ^ 32 → HasElement returned driver.place driver.used first len
-  returned-element small short = with_used-element written driver.place driver.used first len placed.some used-inside small short
+  pub push-element : head < 2 ^ 32 → len < 2 ^ 32 → HasElement push_memory driver.place driver.used head len
+  push-element small short = with_used_entry-element mem driver.place driver.used head len placed.some used-inside small short
 
-  pub returned-agree : HasElement returned driver.place driver.used first len → Agree (after_take driver first) (after_push device) returned
-  returned-agree has = record {
+  pub push-agree : HasElement push_memory driver.place driver.used head len → Agree (after_take driver head) (after_push device) push_memory
+  push-agree has = record {
     place = agree.place;
     driver_memory = agree.driver_memory ∙ sym element-changes.size;
     device_memory = agree.device_memory ∙ sym element-changes.size;
-    available_idx = le16_at-apart written returned driver.place.used (used_bytes driver.place.size) driver.place.avail (available_bytes driver.place.size) (driver.place.avail + 2) element-changes (flipped placed.available_used) (omega arith) (omega arith) ∙ agree.available_idx;
+    available_idx = le16_at-apart mem push_memory (used_area driver.place) (available_area driver.place) (available_idx_addr driver.place) element-changes (flipped placed.available_used) (omega arith) (omega arith) ∙ agree.available_idx;
     available_next = agree.available_next;
     used_idx = has.idx;
     used_next = ap index_after agree.used_next;
@@ -156,42 +149,48 @@ module _ (driver : DriverState) (device : QueueEnd) (placed : IsPlaced driver.pl
   }
 
 -- the whole round
-module _ (driver : DriverState) (device : QueueEnd) (before written returned : List ℕ) (pieces : List Piece) (readable first len : ℕ) (end : IsEnd driver) (round : IsRound driver device before written returned pieces readable first len) where
-  abbrev posting : DriverState
-  posting = after_post driver (length pieces)
+module _ (driver : DriverEndState) (device : DeviceEndState) (round : Round) (end : IsValidDriver driver) (is_round : IsRound driver device round) where
+  abbrev head : ℕ
+  head = round.head
 
-  written-agree : Agree posting (after_pop device) written
-  written-agree = agree-kept posting (after_pop device) (posted before driver pieces readable) written (posted-agree driver device end before pieces readable round.agree) round.keeps
+  abbrev driver_after_post : DriverEndState
+  driver_after_post = after_post driver (length round.pieces)
 
-  accepted : (length pieces ≤ length driver.pool.free) × (first ≡ get_or (reverse driver.pool.free) 0 0)
-  accepted = post-accepted driver (length pieces) first round.posts
+  abbrev push_memory_of : List ℕ
+  push_memory_of = with_used_entry round.at_push driver.place driver.used head round.len
 
-  some-free : 0 < length driver.pool.free
-  some-free = omega (arith, round.some, accepted.0)
+  at_push-agree : Agree driver_after_post (after_pop device) round.at_push
+  at_push-agree = agree-kept driver_after_post (after_pop device) (with_post round.at_post driver round.pieces round.readable) round.at_push (with_post-agree driver device end round.at_post round.pieces round.readable is_round.agree) is_round.keeps
+
+  enough_free : (length round.pieces ≤ length driver.pool.free) × (head ≡ first_free driver.pool.free)
+  enough_free = post-accepted driver (length round.pieces) head is_round.posts
+
+  some_free : 0 < length driver.pool.free
+  some_free = omega (arith, is_round.some, enough_free.0)
 
   -- the head is one of the queue's descriptors
-  first-below : first < length driver.pool.owners
-  first-below =
-      let backwards = get_or-reverse driver.pool.free 0 0 some-free in
-      rw (accepted.1, backwards) ((free_at driver.pool.owners driver.pool.free (length driver.pool.free - 1 - 0) 0 (omega (arith, some-free)) end.listed).0)
+  head-below : head < length driver.pool.owners
+  head-below =
+      let backwards = get_or-reverse driver.pool.free 0 0 some_free in
+      rw (enough_free.1, backwards) ((free_at driver.pool.owners driver.pool.free (length driver.pool.free - 1 - 0) 0 (omega (arith, some_free)) end.free_list).0)
 
   -- it is out, in the chain that it heads
-  first-owned : owner_of (after_given driver.pool (length pieces)).owners first ≡ Some first
-  first-owned =
-      let below = rw accepted.1 at first-below in
-      rw accepted.1 (first-is-owned driver.pool.owners (reverse driver.pool.free) (length pieces) round.some (rw length-reverse some-free) below)
+  head-is-owned : owner_of driver_after_post.pool.owners head ≡ Some head
+  head-is-owned =
+      let below = rw enough_free.1 at head-below in
+      rw enough_free.1 (first-is-owned driver.pool.owners (reverse driver.pool.free) (length round.pieces) is_round.some (rw length-reverse some_free) below)
 
-  is-returned : returned ≡ with_used written driver.place driver.used first len
-  is-returned = round.gives_back ∙ rw (round.agree.place, round.agree.used_next) refl
+  at_take-is : round.at_take ≡ push_memory_of
+  at_take-is = is_round.gives_back ∙ rw (is_round.agree.place, is_round.agree.used_next) refl
 
-  element : HasElement (with_used written driver.place driver.used first len) driver.place driver.used first len
-  element = returned-element posting (after_pop device) end.valid.placed written written-agree first len (omega (arith, first-below, end.numbered)) round.short
+  element : HasElement push_memory_of driver.place driver.used head round.len
+  element = push-element driver_after_post (after_pop device) end.valid.placed round.at_push at_push-agree head round.len (omega (arith, head-below, end.few)) is_round.short
 
-  pub round-takes : taken returned driver.place (after_given driver.pool (length pieces)) driver.used ≡ Ok (Some (first, len))
-  round-takes = rw is-returned (taken-element (with_used written driver.place driver.used first len) driver.place (after_given driver.pool (length pieces)) driver.used first len end.valid.placed.some round.agree.used_small first-owned element)
+  pub round-takes : take_answer round.at_take driver.place (pool_after_post driver.pool (length round.pieces)) driver.used ≡ Ok (Some (head, round.len))
+  round-takes = rw at_take-is (take_answer-element push_memory_of driver.place (pool_after_post driver.pool (length round.pieces)) driver.used head round.len end.valid.placed.some is_round.agree.used_small head-is-owned element)
 
-  pub round-agrees : Agree (after_take posting first) (after_push (after_pop device)) returned
-  round-agrees = rw is-returned (returned-agree posting (after_pop device) end.valid.placed written written-agree first len element)
+  pub round-agrees : Agree (after_round driver round) (after_push (after_pop device)) round.at_take
+  round-agrees = rw at_take-is (push-agree driver_after_post (after_pop device) end.valid.placed round.at_push at_push-agree head round.len element)
 
-  pub round-frees : length driver.pool.free ≤ length (after_take posting first).pool.free
-  round-frees = freed-enough driver.pool (length pieces) first end.listed accepted.0 accepted.1
+  pub round-frees : length driver.pool.free ≤ length (after_round driver round).pool.free
+  round-frees = after_release-free driver.pool (length round.pieces) head end.free_list enough_free.0 enough_free.1

@@ -1,14 +1,14 @@
 -- The definitions at worked examples.
 use Rattle.std.proofs.Common.{◌≡◌, ℕ, List, [], ◌∷◌, ◌++◌, replicate, Some, None, Ok, Err, refl}
 use Rattle.std.specs.Int.Count.{ones}
-use Rattle.split_queue.specs.Layout.{le16_at, le32_at, le64_at, descriptor_at, with_le16, with_le32}
+use Rattle.split_queue.specs.Descriptors.{le16_at, le32_at, le64_at, descriptor_at, with_le16, with_le32}
+use Rattle.split_queue.specs.DeviceEnds.{pop_answer}
+use Rattle.split_queue.specs.Rings.{with_used_entry}
 use Rattle.split_queue.specs.Setup.{setup_fault}
-use Rattle.split_queue.specs.Chains.{buffer_fault, next_fault, next_of, chain_from, chain_of}
-use Rattle.split_queue.specs.Rings.{popped, with_used}
-use Rattle.split_queue.specs.Walks.{fault_at}
-use Rattle.split_queue.specs.declared.place.Place.{Place}
+use Rattle.split_queue.specs.Walks.{buffer_fault, next_fault, next_in_chain, chain_from, chain_of, fault_in_walk}
+use Rattle.split_queue.specs.declared.queue_place.Place.{Place}
 use Rattle.split_queue.specs.declared.setup.SetupErr.TheVariants as setup
-use Rattle.split_queue.specs.declared.walk.RingErr.TheVariants as fault
+use Rattle.split_queue.specs.declared.ring_err.RingErr.TheVariants as fault
 
 -- ---- places
 
@@ -48,46 +48,46 @@ memory next = 128 ∷ replicate 7 0 ++ (24 ∷ 0 ∷ 0 ∷ 0 ∷ 1 ∷ 0 ∷ nex
     ++ (160 ∷ replicate 7 0) ++ (8 ∷ 0 ∷ 0 ∷ 0 ∷ 2 ∷ 0 ∷ 0 ∷ 0 ∷ []) ++ replicate 96 0 ++ (7 ∷ replicate 127 0)
 
 -- the index wraps: the last one before 2^16 stands in slot 3
-popped_at_the_wrap : popped (memory 1) ring 65535 ≡ Ok (Some (record { head = 0; readable = record { items = 7 ∷ replicate 23 0 }; writable = record { items = record { addr = 160; len = 8 } ∷ [] } }))
-unfolding popped chain_of chain_from next_of buffer_fault next_fault descriptor_at le16_at le32_at le64_at memory ring
+popped_at_the_wrap : pop_answer (memory 1) ring 65535 ≡ Ok (Some (record { head = 0; readable = record { items = 7 ∷ replicate 23 0 }; writable = record { items = record { addr = 160; len = 8 } ∷ [] } }))
+unfolding pop_answer chain_of chain_from next_in_chain buffer_fault next_fault descriptor_at le16_at le32_at le64_at memory ring
 popped_at_the_wrap = refl
 
-nothing_at_index_0 : popped (memory 1) ring 0 ≡ Ok None
-unfolding popped chain_of chain_from next_of buffer_fault next_fault descriptor_at le16_at le32_at le64_at memory ring
+nothing_at_index_0 : pop_answer (memory 1) ring 0 ≡ Ok None
+unfolding pop_answer chain_of chain_from next_in_chain buffer_fault next_fault descriptor_at le16_at le32_at le64_at memory ring
 nothing_at_index_0 = refl
 
-loop : popped (memory 0) ring 65535 ≡ Err (fault.Loop 0)
-unfolding popped chain_of chain_from next_of buffer_fault next_fault descriptor_at le16_at le32_at le64_at memory ring
+loop : pop_answer (memory 0) ring 65535 ≡ Err (fault.Loop 0)
+unfolding pop_answer chain_of chain_from next_in_chain buffer_fault next_fault descriptor_at le16_at le32_at le64_at memory ring
 loop = refl
 
 -- the same in the walk's words: descriptor 0 names itself
-loop_at_0 : fault_at (memory 0) ring (0 ∷ []) 0 ≡ Some (fault.Loop 0)
-unfolding fault_at buffer_fault next_fault descriptor_at le16_at le32_at le64_at memory ring
+loop_at_0 : fault_in_walk (memory 0) ring (0 ∷ []) 0 ≡ Some (fault.Loop 0)
+unfolding fault_in_walk buffer_fault next_fault descriptor_at le16_at le32_at le64_at memory ring
 loop_at_0 = refl
 
 -- the second descriptor of the chain above has none
-none_at_1 : fault_at (memory 1) ring (0 ∷ 1 ∷ []) 1 ≡ None
-unfolding fault_at buffer_fault next_fault descriptor_at le16_at le32_at le64_at memory ring
+none_at_1 : fault_in_walk (memory 1) ring (0 ∷ 1 ∷ []) 1 ≡ None
+unfolding fault_in_walk buffer_fault next_fault descriptor_at le16_at le32_at le64_at memory ring
 none_at_1 = refl
 
-next_past_the_table : popped (memory 4) ring 65535 ≡ Err (fault.BadNext 0)
-unfolding popped chain_of chain_from next_of buffer_fault next_fault descriptor_at le16_at le32_at le64_at memory ring
+next_past_the_table : pop_answer (memory 4) ring 65535 ≡ Err (fault.BadNext 0)
+unfolding pop_answer chain_of chain_from next_in_chain buffer_fault next_fault descriptor_at le16_at le32_at le64_at memory ring
 next_past_the_table = refl
 
 -- five more than a size of 4
-jump : popped (memory 1) ring 65531 ≡ Err (fault.IdxJump 0)
-unfolding popped chain_of chain_from next_of buffer_fault next_fault descriptor_at le16_at le32_at le64_at memory ring
+jump : pop_answer (memory 1) ring 65531 ≡ Err (fault.IdxJump 0)
+unfolding pop_answer chain_of chain_from next_in_chain buffer_fault next_fault descriptor_at le16_at le32_at le64_at memory ring
 jump = refl
 
 -- the used element of index 65535 stands at 108, and the index after it is 0
-used_id : le32_at (with_used (memory 1) ring 65535 3 8) 108 ≡ 3
-unfolding with_used with_le16 with_le32 le32_at memory ring
+used_id : le32_at (with_used_entry (memory 1) ring 65535 3 8) 108 ≡ 3
+unfolding with_used_entry with_le16 with_le32 le32_at memory ring
 used_id = refl
 
-used_len : le32_at (with_used (memory 1) ring 65535 3 8) 112 ≡ 8
-unfolding with_used with_le16 with_le32 le32_at memory ring
+used_len : le32_at (with_used_entry (memory 1) ring 65535 3 8) 112 ≡ 8
+unfolding with_used_entry with_le16 with_le32 le32_at memory ring
 used_len = refl
 
-used_idx : le16_at (with_used (memory 1) ring 65535 3 8) 82 ≡ 0
-unfolding with_used with_le16 with_le32 le16_at memory ring
+used_idx : le16_at (with_used_entry (memory 1) ring 65535 3 8) 82 ≡ 0
+unfolding with_used_entry with_le16 with_le32 le16_at memory ring
 used_idx = refl

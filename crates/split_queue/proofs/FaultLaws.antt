@@ -4,33 +4,33 @@ use Rattle.std.specs.Option.{option_or}
 use Rattle.std.proofs.Math.Seq.{take-append_seam}
 use Rattle.std.proofs.lemmas.Bool.{cond-true, cond-false, ne_eqb, eq-eqb, and_right}
 use Rattle.std.proofs.lemmas.List.{get_or_append_left, get_or_at, take-append-le, take_all}
-use Rattle.split_queue.specs.Layout.{descriptor_at, has_next}
-use Rattle.split_queue.specs.Chains.{buffer_fault, next_fault, next_of}
-use Rattle.split_queue.specs.Walks.{gathered, count_fault, fault_at}
-use Rattle.split_queue.proofs.NextLaws.{next_of-err, next_of-ok}
-use Rattle.split_queue.specs.declared.place.Place.{Place}
+use Rattle.split_queue.specs.Chains.{most_descriptors}
+use Rattle.split_queue.specs.Descriptors.{descriptor_at, has_next}
+use Rattle.split_queue.specs.Walks.{buffer_fault, next_fault, next_in_chain, chain_along, count_fault, fault_in_walk}
+use Rattle.split_queue.proofs.NextLaws.{next_in_chain-err, next_in_chain-ok}
+use Rattle.split_queue.specs.declared.queue_place.Place.{Place}
 use Rattle.split_queue.specs.declared.descriptor.Descriptor.{Descriptor}
 use Rattle.split_queue.specs.declared.chain.Chain.{Chain}
-use Rattle.split_queue.specs.declared.walk.RingErr.{RingErr}
-use Rattle.split_queue.specs.declared.walk.RingErr.TheVariants as fault
+use Rattle.split_queue.specs.declared.ring_err.RingErr.{RingErr}
+use Rattle.split_queue.specs.declared.ring_err.RingErr.TheVariants as fault
 
 -- ---- the count
 
 pub count_fault-last : (before number : ℕ) (d : Descriptor) → has_next d ≡ false → count_fault before number d ≡ None
-count_fault-last before number d last = cond-false _ _ _ (ap (λ b. b && (before == 63)) last)
+count_fault-last before number d last = cond-false _ _ _ (ap (λ b. b && (before + 1 == most_descriptors)) last)
 
-pub count_fault-few : (before number : ℕ) (d : Descriptor) → before < 63 → count_fault before number d ≡ None
-count_fault-few before number d few = cond-false _ _ _ (and_right _ _ (ne_eqb before 63 (λ e. omega arith)))
+pub count_fault-few : (before number : ℕ) (d : Descriptor) → before + 1 < most_descriptors → count_fault before number d ≡ None
+count_fault-few before number d few = cond-false _ _ _ (and_right _ _ (ne_eqb (before + 1) most_descriptors (λ e. omega arith)))
 
-pub count_fault-many : (before number : ℕ) (d : Descriptor) → before ≡ 63 → has_next d ≡ true → count_fault before number d ≡ Some (fault.TooMany number)
-count_fault-many before number d full goes_on = cond-true _ _ _ (ap (λ b. b && (before == 63)) goes_on ∙ eq-eqb before 63 full)
+pub count_fault-many : (before number : ℕ) (d : Descriptor) → before + 1 ≡ most_descriptors → has_next d ≡ true → count_fault before number d ≡ Some (fault.TooMany number)
+count_fault-many before number d full goes_on = cond-true _ _ _ (ap (λ b. b && (before + 1 == most_descriptors)) goes_on ∙ eq-eqb (before + 1) most_descriptors full)
 
 -- ---- the position
 
 -- what stands after a position doesn't change its fault
-pub fault_at-front : (mem : List ℕ) (place : Place) (front more : List ℕ) (k : ℕ) → k < length front → fault_at mem place (front ++ more) k ≡ fault_at mem place front k
-unfolding fault_at
-fault_at-front mem place front more k h =
+pub fault_in_walk-front : (mem : List ℕ) (place : Place) (front more : List ℕ) (k : ℕ) → k < length front → fault_in_walk mem place (front ++ more) k ≡ fault_in_walk mem place front k
+unfolding fault_in_walk
+fault_in_walk-front mem place front more k h =
     let here : get_or (front ++ more) k 0 ≡ get_or front k 0 = get_or_append_left front more 0 k h in
     let first : get_or (front ++ more) 0 0 ≡ get_or front 0 0 = get_or_append_left front more 0 0 (omega arith) in
     let before : take k (front ++ more) ≡ take k front = take-append-le k front more (omega arith) in
@@ -39,19 +39,19 @@ fault_at-front mem place front more k h =
 
 module _ (mem : List ℕ) (place : Place) (head : ℕ) (front : List ℕ) (number : ℕ) (begins : get_or (front ++ number ∷ []) 0 0 ≡ head) where
   -- the last one's is that of its buffer, of its next field, or of the count
-  fault_at-last : fault_at mem place (front ++ number ∷ []) (length front) ≡ option_or (buffer_fault mem (gathered mem place head front) number (descriptor_at mem place number)) (option_or (next_fault place (front ++ number ∷ []) number (descriptor_at mem place number)) (count_fault (length front) number (descriptor_at mem place number)))
-  unfolding fault_at
-  fault_at-last =
+  fault_in_walk-last : fault_in_walk mem place (front ++ number ∷ []) (length front) ≡ option_or (buffer_fault mem (chain_along mem place head front) number (descriptor_at mem place number)) (option_or (next_fault place (front ++ number ∷ []) number (descriptor_at mem place number)) (count_fault (length front) number (descriptor_at mem place number)))
+  unfolding fault_in_walk
+  fault_in_walk-last =
       let here : get_or (front ++ number ∷ []) (length front) 0 ≡ number = get_or_at front number [] 0 (length front) refl in
       let before : take (length front) (front ++ number ∷ []) ≡ front = take-append_seam front (number ∷ []) in
       let up_to : take (length front + 1) (front ++ number ∷ []) ≡ front ++ number ∷ [] = take_all (length front + 1) (front ++ number ∷ []) (omega (arith, length-append front (number ∷ []))) in
       rw (here, before, up_to, begins) refl
 
-  pub fault_at-err : (f : RingErr) → next_of mem place (front ++ number ∷ []) (gathered mem place head front) number ≡ Err f → fault_at mem place (front ++ number ∷ []) (length front) ≡ Some f
-  fault_at-err f e = fault_at-last ∙ next_of-err mem place (front ++ number ∷ []) (gathered mem place head front) number (count_fault (length front) number (descriptor_at mem place number)) f e
+  pub fault_in_walk-err : (f : RingErr) → next_in_chain mem place (front ++ number ∷ []) (chain_along mem place head front) number ≡ Err f → fault_in_walk mem place (front ++ number ∷ []) (length front) ≡ Some f
+  fault_in_walk-err f e = fault_in_walk-last ∙ next_in_chain-err mem place (front ++ number ∷ []) (chain_along mem place head front) number (count_fault (length front) number (descriptor_at mem place number)) f e
 
-  pub fault_at-ok : (r : Option ℕ) → next_of mem place (front ++ number ∷ []) (gathered mem place head front) number ≡ Ok r → fault_at mem place (front ++ number ∷ []) (length front) ≡ count_fault (length front) number (descriptor_at mem place number)
-  fault_at-ok r e = fault_at-last ∙ next_of-ok mem place (front ++ number ∷ []) (gathered mem place head front) number (count_fault (length front) number (descriptor_at mem place number)) r e
+  pub fault_in_walk-ok : (r : Option ℕ) → next_in_chain mem place (front ++ number ∷ []) (chain_along mem place head front) number ≡ Ok r → fault_in_walk mem place (front ++ number ∷ []) (length front) ≡ count_fault (length front) number (descriptor_at mem place number)
+  fault_in_walk-ok r e = fault_in_walk-last ∙ next_in_chain-ok mem place (front ++ number ∷ []) (chain_along mem place head front) number (count_fault (length front) number (descriptor_at mem place number)) r e
 
 -- ---- which faults a descriptor has
 
@@ -89,12 +89,12 @@ module _ (number : ℕ) (d : Descriptor) where
   next_fault-kind place visited = kind-cond _ _ _ kind-none (kind-cond _ _ _ (kind-some (fault.BadNext number) tt) (kind-cond _ _ _ (kind-some (fault.Loop number) tt) kind-none))
 
   count_fault-kind : (before : ℕ) → IsOfDescriptor (count_fault before number d)
-  count_fault-kind before = kind-cond (has_next d && (before == 63)) _ _ (kind-some (fault.TooMany number) tt) kind-none
+  count_fault-kind before = kind-cond (has_next d && (before + 1 == most_descriptors)) _ _ (kind-some (fault.TooMany number) tt) kind-none
 
-pub fault_at-kind : (mem : List ℕ) (place : Place) (walk : List ℕ) (k : ℕ) (f : RingErr) → fault_at mem place walk k ≡ Some f → IsDescriptorFault f
-unfolding fault_at
-fault_at-kind mem place walk k f e =
+pub fault_in_walk-kind : (mem : List ℕ) (place : Place) (walk : List ℕ) (k : ℕ) (f : RingErr) → fault_in_walk mem place walk k ≡ Some f → IsDescriptorFault f
+unfolding fault_in_walk
+fault_in_walk-kind mem place walk k f e =
     let number = get_or walk k 0 in
     let d = descriptor_at mem place number in
-    let found = kind-or _ _ (buffer_fault-kind number d mem (gathered mem place (get_or walk 0 0) (take k walk))) (kind-or _ _ (next_fault-kind number d place (take (k + 1) walk)) (count_fault-kind number d k)) in
+    let found = kind-or _ _ (buffer_fault-kind number d mem (chain_along mem place (get_or walk 0 0) (take k walk))) (kind-or _ _ (next_fault-kind number d place (take (k + 1) walk)) (count_fault-kind number d k)) in
     (subst IsOfDescriptor e found).kind

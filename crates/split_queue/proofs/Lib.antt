@@ -2,9 +2,9 @@ pub mod AgreementLaws
 pub mod ChainSteps
 mod Examples
 pub mod FaultLaws
-pub mod FreedLaws
-pub mod GatheredLaws
-pub mod GivenLaws
+pub mod ReleaseLaws
+pub mod BufferLaws
+pub mod ChainNumbers
 pub mod NextLaws
 pub mod OutcomeLaws
 pub mod PiecesInside

@@ -1,28 +1,16 @@
 -- What is read of a memory in which a number, or a descriptor, was written.
-use Rattle.std.proofs.Common.{◌≡◌, ℕ, ◌+◌, ◌-◌, ◌*◌, ◌^◌, ◌<◌, ◌≤◌, ◌⊎◌, inl, inr, List, ◌++◌, length, length-append, length-take, length-drop, take, drop, get_or, refl, sym, ap, ◌∙◌, min, arith}
+use Rattle.std.proofs.Common.{◌≡◌, ℕ, ◌+◌, ◌^◌, ◌<◌, ◌≤◌, ◌⊎◌, inl, inr, List, length, get_or, refl, ap, ◌∙◌, arith}
 use Rattle.std.specs.Int.{from_le_bytes, to_le_bytes, w16, w32, w64}
 use Rattle.std.proofs.lemmas.Nat.{from_le_bytes-to_le_bytes_2, from_le_bytes-to_le_bytes_4, from_le_bytes-to_le_bytes_8}
-use Rattle.std.proofs.lemmas.List.{append_assoc, length-take-le, take_at, drop_at, get_or-take, get_or-drop, get_or_append_left, get_or-append_right, ext_get_or}
-use Rattle.guest_mem.specs.Memory.{bytes_at, with_bytes}
-use Rattle.split_queue.specs.Layout.{ChangesOnly, le16_at, le32_at, le64_at, with_le16, with_le32, with_le64, descriptor_at, with_descriptor}
-use Rattle.split_queue.specs.declared.place.Place.{Place}
+use Rattle.guest_mem.specs.Memory.{ChangesOnly, IsInRange}
+use Rattle.guest_mem.proofs.Changes.{changes-then}
+use Rattle.guest_mem.proofs.Bytes.{bytes_at-same, bytes_at-with_bytes, with_bytes-changes}
+use Rattle.split_queue.specs.Descriptors.{le16_at, le32_at, le64_at, with_le16, with_le32, with_le64, descriptor_at, with_descriptor}
+use Rattle.split_queue.specs.QueuePlaces.{descriptor_addr, descriptor_bytes}
+use Rattle.split_queue.specs.declared.queue_place.Place.{Place}
 use Rattle.split_queue.specs.declared.descriptor.Descriptor.{Descriptor}
 
 -- ---- a read depends on its bytes alone
-
-length-bytes_at : (mem : List ℕ) (addr count : ℕ) → length (bytes_at mem addr count) ≡ min count (length mem - addr)
-length-bytes_at mem addr count = length-take count (drop addr mem) ∙ ap (min count) (length-drop addr mem)
-
-pub get_or-bytes_at : (mem : List ℕ) (addr count i : ℕ) → i < count → get_or (bytes_at mem addr count) i 0 ≡ get_or mem (addr + i) 0
-get_or-bytes_at mem addr count i below = get_or-take count (drop addr mem) i 0 below ∙ get_or-drop addr mem i 0
-
-pub bytes_at-same : (before after : List ℕ) (addr count : ℕ) → length after ≡ length before → ((k : ℕ) → addr ≤ k → k < addr + count → get_or after k 0 ≡ get_or before k 0) → bytes_at after addr count ≡ bytes_at before addr count
-bytes_at-same before after addr count size same =
-    let len_after = length-bytes_at after addr count in
-    let len_before = length-bytes_at before addr count in
-    ext_get_or 0 (bytes_at after addr count) (bytes_at before addr count) (omega (arith, len_after, len_before, size)) (λ i below.
-    let within : i < count = omega (arith, len_after, below) in
-    get_or-bytes_at after addr count i within ∙ same (addr + i) (omega arith) (omega arith) ∙ sym (get_or-bytes_at before addr count i within))
 
 pub le16_at-same : (before after : List ℕ) (addr : ℕ) → length after ≡ length before → ((k : ℕ) → addr ≤ k → k < addr + 2 → get_or after k 0 ≡ get_or before k 0) → le16_at after addr ≡ le16_at before addr
 unfolding le16_at
@@ -36,10 +24,10 @@ pub le64_at-same : (before after : List ℕ) (addr : ℕ) → length after ≡ l
 unfolding le64_at
 le64_at-same before after addr size same = ap (from_le_bytes w64) (bytes_at-same before after addr 8 size same)
 
-pub descriptor_at-same : (before after : List ℕ) (place : Place) (number : ℕ) → length after ≡ length before → ((k : ℕ) → place.desc + 16 * number ≤ k → k < place.desc + 16 * number + 16 → get_or after k 0 ≡ get_or before k 0) → descriptor_at after place number ≡ descriptor_at before place number
+pub descriptor_at-same : (before after : List ℕ) (place : Place) (number : ℕ) → length after ≡ length before → ((k : ℕ) → descriptor_addr place number ≤ k → k < descriptor_addr place number + descriptor_bytes → get_or after k 0 ≡ get_or before k 0) → descriptor_at after place number ≡ descriptor_at before place number
 unfolding descriptor_at
 descriptor_at-same before after place number size same =
-    let start = place.desc + 16 * number in
+    let start = descriptor_addr place number in
     let addr : le64_at after start ≡ le64_at before start = le64_at-same before after start size (λ k low high. same k (omega arith) (omega arith)) in
     let len : le32_at after (start + 8) ≡ le32_at before (start + 8) = le32_at-same before after (start + 8) size (λ k low high. same k (omega arith) (omega arith)) in
     let flags : le16_at after (start + 12) ≡ le16_at before (start + 12) = le16_at-same before after (start + 12) size (λ k low high. same k (omega arith) (omega arith)) in
@@ -47,43 +35,16 @@ descriptor_at-same before after place number size same =
     rw (addr, len, flags, next) refl
 
 -- a number that lies outside of what was changed
-pub le16_at-outside : (before after : List ℕ) (start count addr : ℕ) → ChangesOnly before after start count → (addr + 2 ≤ start) ⊎ (start + count ≤ addr) → le16_at after addr ≡ le16_at before addr
-le16_at-outside before after start count addr changes apart = le16_at-same before after addr changes.size (λ k low high. changes.others k (elim apart [ inl l ↦ inl (omega arith) | inr r ↦ inr (omega arith) ]))
+pub le16_at-outside : (before after : List ℕ) (start count addr : ℕ) → ChangesOnly before after (IsInRange start count) → (addr + 2 ≤ start) ⊎ (start + count ≤ addr) → le16_at after addr ≡ le16_at before addr
+le16_at-outside before after start count addr changes apart = le16_at-same before after addr changes.size (λ k low high. changes.others k (λ inside. elim apart [ inl l ↦ omega arith | inr r ↦ omega arith ]))
 
-pub le32_at-outside : (before after : List ℕ) (start count addr : ℕ) → ChangesOnly before after start count → (addr + 4 ≤ start) ⊎ (start + count ≤ addr) → le32_at after addr ≡ le32_at before addr
-le32_at-outside before after start count addr changes apart = le32_at-same before after addr changes.size (λ k low high. changes.others k (elim apart [ inl l ↦ inl (omega arith) | inr r ↦ inr (omega arith) ]))
+pub le32_at-outside : (before after : List ℕ) (start count addr : ℕ) → ChangesOnly before after (IsInRange start count) → (addr + 4 ≤ start) ⊎ (start + count ≤ addr) → le32_at after addr ≡ le32_at before addr
+le32_at-outside before after start count addr changes apart = le32_at-same before after addr changes.size (λ k low high. changes.others k (λ inside. elim apart [ inl l ↦ omega arith | inr r ↦ omega arith ]))
 
-pub le64_at-outside : (before after : List ℕ) (start count addr : ℕ) → ChangesOnly before after start count → (addr + 8 ≤ start) ⊎ (start + count ≤ addr) → le64_at after addr ≡ le64_at before addr
-le64_at-outside before after start count addr changes apart = le64_at-same before after addr changes.size (λ k low high. changes.others k (elim apart [ inl l ↦ inl (omega arith) | inr r ↦ inr (omega arith) ]))
+pub le64_at-outside : (before after : List ℕ) (start count addr : ℕ) → ChangesOnly before after (IsInRange start count) → (addr + 8 ≤ start) ⊎ (start + count ≤ addr) → le64_at after addr ≡ le64_at before addr
+le64_at-outside before after start count addr changes apart = le64_at-same before after addr changes.size (λ k low high. changes.others k (λ inside. elim apart [ inl l ↦ omega arith | inr r ↦ omega arith ]))
 
--- ---- bytes that were written are read back, and nothing else changed
-
-bytes_at-with_bytes : (mem : List ℕ) (addr : ℕ) (bytes : List ℕ) → addr + length bytes ≤ length mem → bytes_at (with_bytes mem addr bytes) addr (length bytes) ≡ bytes
-bytes_at-with_bytes mem addr bytes inside =
-    let rest = drop (addr + length bytes) mem in
-    let front : length (take addr mem) ≡ addr = length-take-le addr mem (omega arith) in
-    ap (λ xs. take (length bytes) (drop addr xs)) (append_assoc (take addr mem) bytes rest) ∙ ap (take (length bytes)) (drop_at (take addr mem) (bytes ++ rest) addr front) ∙ take_at bytes rest (length bytes) refl
-
-with_bytes-changes : (mem : List ℕ) (addr : ℕ) (bytes : List ℕ) → addr + length bytes ≤ length mem → ChangesOnly mem (with_bytes mem addr bytes) addr (length bytes)
-with_bytes-changes mem addr bytes inside =
-    let rest = drop (addr + length bytes) mem in
-    let front : length (take addr mem) ≡ addr = length-take-le addr mem (omega arith) in
-    let head : length (take addr mem ++ bytes) ≡ addr + length bytes = omega (arith, front, length-append (take addr mem) bytes) in
-    let tail : length rest ≡ length mem - (addr + length bytes) = length-drop (addr + length bytes) mem in
-    record {
-      size = omega (arith, head, tail, length-append (take addr mem ++ bytes) rest);
-      others = λ k out. elim out [
-        | inl l ↦
-            let early : k < length (take addr mem) = omega (arith, front) in
-            let within : k < length (take addr mem ++ bytes) = omega (arith, head) in
-            get_or_append_left (take addr mem ++ bytes) rest 0 k within ∙ get_or_append_left (take addr mem) bytes 0 k early ∙ get_or-take addr mem k 0 l
-        | inr r ↦
-            let same : addr + length bytes + (k - (addr + length bytes)) ≡ k = omega arith in
-            get_or-append_right (take addr mem ++ bytes) rest (addr + length bytes) k 0 head r ∙ get_or-drop (addr + length bytes) mem (k - (addr + length bytes)) 0 ∙ ap (λ i. get_or mem i 0) same
-      ];
-    }
-
--- ---- so are numbers
+-- ---- numbers that were written are read back, and nothing else changed
 
 pub le16_at-with_le16 : (mem : List ℕ) (addr n : ℕ) → addr + 2 ≤ length mem → n < 2 ^ 16 → le16_at (with_le16 mem addr n) addr ≡ n
 unfolding le16_at with_le16
@@ -97,15 +58,15 @@ pub le64_at-with_le64 : (mem : List ℕ) (addr n : ℕ) → addr + 8 ≤ length 
 unfolding le64_at with_le64
 le64_at-with_le64 mem addr n inside small = ap (from_le_bytes w64) (bytes_at-with_bytes mem addr (to_le_bytes w64 n) inside) ∙ from_le_bytes-to_le_bytes_8 n small
 
-pub with_le16-changes : (mem : List ℕ) (addr n : ℕ) → addr + 2 ≤ length mem → ChangesOnly mem (with_le16 mem addr n) addr 2
+pub with_le16-changes : (mem : List ℕ) (addr n : ℕ) → addr + 2 ≤ length mem → ChangesOnly mem (with_le16 mem addr n) (IsInRange addr 2)
 unfolding with_le16
 with_le16-changes mem addr n inside = with_bytes-changes mem addr (to_le_bytes w16 n) inside
 
-pub with_le32-changes : (mem : List ℕ) (addr n : ℕ) → addr + 4 ≤ length mem → ChangesOnly mem (with_le32 mem addr n) addr 4
+pub with_le32-changes : (mem : List ℕ) (addr n : ℕ) → addr + 4 ≤ length mem → ChangesOnly mem (with_le32 mem addr n) (IsInRange addr 4)
 unfolding with_le32
 with_le32-changes mem addr n inside = with_bytes-changes mem addr (to_le_bytes w32 n) inside
 
-pub with_le64-changes : (mem : List ℕ) (addr n : ℕ) → addr + 8 ≤ length mem → ChangesOnly mem (with_le64 mem addr n) addr 8
+pub with_le64-changes : (mem : List ℕ) (addr n : ℕ) → addr + 8 ≤ length mem → ChangesOnly mem (with_le64 mem addr n) (IsInRange addr 8)
 unfolding with_le64
 with_le64-changes mem addr n inside = with_bytes-changes mem addr (to_le_bytes w64 n) inside
 
@@ -125,26 +86,26 @@ module _ (mem : List ℕ) (start : ℕ) (d : Descriptor) (inside : start + 16 �
   abbrev with_next : List ℕ
   with_next = with_le16 with_flags (start + 14) d.next
 
-  addr-changes : ChangesOnly mem with_addr start 8
+  addr-changes : ChangesOnly mem with_addr (IsInRange start 8)
   addr-changes = with_le64-changes mem start d.addr (omega arith)
 
-  len-changes : ChangesOnly with_addr with_len (start + 8) 4
+  len-changes : ChangesOnly with_addr with_len (IsInRange (start + 8) 4)
   len-changes = with_le32-changes with_addr (start + 8) d.len (omega (arith, addr-changes.size))
 
-  flags-changes : ChangesOnly with_len with_flags (start + 12) 2
+  flags-changes : ChangesOnly with_len with_flags (IsInRange (start + 12) 2)
   flags-changes = with_le16-changes with_len (start + 12) d.flags (omega (arith, addr-changes.size, len-changes.size))
 
-  next-changes : ChangesOnly with_flags with_next (start + 14) 2
+  next-changes : ChangesOnly with_flags with_next (IsInRange (start + 14) 2)
   next-changes = with_le16-changes with_flags (start + 14) d.next (omega (arith, addr-changes.size, len-changes.size, flags-changes.size))
 
-  fields-change : ChangesOnly mem with_next start 16
-  fields-change = record {
-    size = next-changes.size ∙ flags-changes.size ∙ len-changes.size ∙ addr-changes.size;
-    others = λ k out. elim out [
-      | inl l ↦ next-changes.others k (inl (omega arith)) ∙ flags-changes.others k (inl (omega arith)) ∙ len-changes.others k (inl (omega arith)) ∙ addr-changes.others k (inl l)
-      | inr r ↦ next-changes.others k (inr (omega arith)) ∙ flags-changes.others k (inr (omega arith)) ∙ len-changes.others k (inr (omega arith)) ∙ addr-changes.others k (inr (omega arith))
-    ];
-  }
+  in-fields : (at count : ℕ) → start ≤ at → at + count ≤ start + 16 → (addr : ℕ) → IsInRange at count addr → IsInRange start 16 addr
+  in-fields at count low high addr inside = (omega arith, omega arith)
+
+  fields-change : ChangesOnly mem with_next (IsInRange start 16)
+  fields-change =
+      let two = changes-then mem with_addr with_len (IsInRange start 8) (IsInRange (start + 8) 4) (IsInRange start 16) (in-fields start 8 (omega arith) (omega arith)) (in-fields (start + 8) 4 (omega arith) (omega arith)) addr-changes len-changes in
+      let three = changes-then mem with_len with_flags (IsInRange start 16) (IsInRange (start + 12) 2) (IsInRange start 16) (λ addr inside. inside) (in-fields (start + 12) 2 (omega arith) (omega arith)) two flags-changes in
+      changes-then mem with_flags with_next (IsInRange start 16) (IsInRange (start + 14) 2) (IsInRange start 16) (λ addr inside. inside) (in-fields (start + 14) 2 (omega arith) (omega arith)) three next-changes
 
   addr-back : d.addr < 2 ^ 64 → le64_at with_next start ≡ d.addr
   addr-back small =
@@ -171,12 +132,12 @@ module _ (mem : List ℕ) (start : ℕ) (d : Descriptor) (inside : start + 16 �
 of_fields : (d : Descriptor) (addr len flags next : ℕ) → addr ≡ d.addr → len ≡ d.len → flags ≡ d.flags → next ≡ d.next → let same : Descriptor = record { addr = addr; len = len; flags = flags; next = next } in same ≡ d
 of_fields d addr len flags next a l f n = rw (a, l, f, n) refl
 
-pub descriptor_at-with_descriptor : (mem : List ℕ) (place : Place) (number : ℕ) (d : Descriptor) → place.desc + 16 * number + 16 ≤ length mem → d.addr < 2 ^ 64 → d.len < 2 ^ 32 → d.flags < 2 ^ 16 → d.next < 2 ^ 16 → descriptor_at (with_descriptor mem place number d) place number ≡ d
+pub descriptor_at-with_descriptor : (mem : List ℕ) (place : Place) (number : ℕ) (d : Descriptor) → descriptor_addr place number + descriptor_bytes ≤ length mem → d.addr < 2 ^ 64 → d.len < 2 ^ 32 → d.flags < 2 ^ 16 → d.next < 2 ^ 16 → descriptor_at (with_descriptor mem place number d) place number ≡ d
 unfolding descriptor_at with_descriptor
 descriptor_at-with_descriptor mem place number d inside addr len flags next =
-    let start = place.desc + 16 * number in
+    let start = descriptor_addr place number in
     of_fields d _ _ _ _ (addr-back mem start d inside addr) (len-back mem start d inside len) (flags-back mem start d inside flags) (next-back mem start d inside next)
 
-pub with_descriptor-changes : (mem : List ℕ) (place : Place) (number : ℕ) (d : Descriptor) → place.desc + 16 * number + 16 ≤ length mem → ChangesOnly mem (with_descriptor mem place number d) (place.desc + 16 * number) 16
+pub with_descriptor-changes : (mem : List ℕ) (place : Place) (number : ℕ) (d : Descriptor) → descriptor_addr place number + descriptor_bytes ≤ length mem → ChangesOnly mem (with_descriptor mem place number d) (IsInRange (descriptor_addr place number) descriptor_bytes)
 unfolding with_descriptor
-with_descriptor-changes mem place number d inside = fields-change mem (place.desc + 16 * number) d inside
+with_descriptor-changes mem place number d inside = fields-change mem (descriptor_addr place number) d inside

@@ -4,9 +4,9 @@ use Rattle.std.specs.List.{list_any}
 use Rattle.std.proofs.lemmas.Bool.{cases_lt, false≢true, eq-eqb}
 use Rattle.std.proofs.lemmas.List.Folds.{list_any_at}
 use Rattle.std.proofs.lemmas.List.{get_or_append_left, get_or_at}
-use Rattle.split_queue.specs.Layout.{descriptor_at, has_next}
-use Rattle.split_queue.specs.Walks.{Names, IsWalk}
-use Rattle.split_queue.specs.declared.place.Place.{Place}
+use Rattle.split_queue.specs.Descriptors.{descriptor_at, has_next}
+use Rattle.split_queue.specs.Walks.{NamesNext, IsWalk}
+use Rattle.split_queue.specs.declared.queue_place.Place.{Place}
 
 -- the head alone
 pub head_walk : (mem : List ℕ) (place : Place) (head : ℕ) → head < place.size → IsWalk mem place head (head ∷ [])
@@ -15,14 +15,14 @@ head_walk mem place head inside = record {
   begins = refl;
   below = λ k h. let e : k ≡ 0 = omega arith in rw e inside;
   distinct = λ j k apart h. absurd (omega arith);
-  linked = λ k h. absurd (omega arith);
+  names_next = λ k h. absurd (omega arith);
 }
 
-unseen : (visited : List ℕ) (n j : ℕ) → list_any (λ m. m == n) visited ≡ false → j < length visited → get_or visited j 0 ≢ n
-unseen visited n j none below = λ same. absurd (let there = list_any_at (λ m. m == n) visited j 0 below (eq-eqb (get_or visited j 0) n same) in cc)
+not_visited : (visited : List ℕ) (n j : ℕ) → list_any (λ m. m == n) visited ≡ false → j < length visited → get_or visited j 0 ≢ n
+not_visited visited n j none below = λ same. absurd (let there = list_any_at (λ m. m == n) visited j 0 below (eq-eqb (get_or visited j 0) n same) in cc)
 
 -- the walk with the descriptor that its last one names
-pub push_walk : (mem : List ℕ) (place : Place) (head : ℕ) (front : List ℕ) (number n : ℕ) → IsWalk mem place head (front ++ number ∷ []) → Names mem place number n → n < place.size → list_any (λ m. m == n) (front ++ number ∷ []) ≡ false → IsWalk mem place head ((front ++ number ∷ []) ++ n ∷ [])
+pub push_walk : (mem : List ℕ) (place : Place) (head : ℕ) (front : List ℕ) (number n : ℕ) → IsWalk mem place head (front ++ number ∷ []) → NamesNext mem place number n → n < place.size → list_any (λ m. m == n) (front ++ number ∷ []) ≡ false → IsWalk mem place head ((front ++ number ∷ []) ++ n ∷ [])
 push_walk mem place head front number n walk names inside new =
     let xs = front ++ number ∷ [] in
     let old_len : length xs ≡ length front + 1 = length-append front (number ∷ []) in
@@ -42,10 +42,10 @@ push_walk mem place head front number n walk names inside new =
         | inr g ↦
             let e : k ≡ length xs = omega arith in
             let at_k : get_or (xs ++ n ∷ []) k 0 ≡ n = rw e last in
-            unseen xs n j new (omega arith) (sym (left j (omega arith)) ∙ same ∙ at_k)
+            not_visited xs n j new (omega arith) (sym (left j (omega arith)) ∙ same ∙ at_k)
       ];
-      linked = λ k h. elim (cases_lt (suc k) (length xs)) [
-        | inl l ↦ rw (left k (omega arith), left (suc k) l) (walk.linked k l)
+      names_next = λ k h. elim (cases_lt (suc k) (length xs)) [
+        | inl l ↦ rw (left k (omega arith), left (suc k) l) (walk.names_next k l)
         | inr g ↦
             let e : suc k ≡ length xs = omega arith in
             let f : k ≡ length front = omega arith in
@@ -60,7 +60,7 @@ agree : (mem : List ℕ) (place : Place) (head : ℕ) (xs ys : List ℕ) → IsW
 agree mem place head xs ys walk other zero h g = other.begins ∙ sym walk.begins
 agree mem place head xs ys walk other (suc k) h g =
     let same = agree mem place head xs ys walk other k (omega arith) (omega arith) in
-    sym (other.linked k g).named ∙ ap (λ m. (descriptor_at mem place m).next) same ∙ (walk.linked k h).named
+    sym (other.names_next k g).next_is ∙ ap (λ m. (descriptor_at mem place m).next) same ∙ (walk.names_next k h).next_is
 
 -- a walk to a descriptor that none follows is the longest
 pub longest_walk : (mem : List ℕ) (place : Place) (head : ℕ) (front : List ℕ) (number : ℕ) → IsWalk mem place head (front ++ number ∷ []) → has_next (descriptor_at mem place number) ≡ false → (other : List ℕ) → IsWalk mem place head other → length other ≤ length (front ++ number ∷ [])
@@ -71,7 +71,7 @@ longest_walk mem place head front number walk ends other is_other =
       | inl longer ↦
           let last : get_or (front ++ number ∷ []) (length front) 0 ≡ number = get_or_at front number [] 0 (length front) refl in
           let same : get_or other (length front) 0 ≡ number = agree mem place head (front ++ number ∷ []) other walk is_other (length front) (omega arith) (omega arith) ∙ last in
-          let names = is_other.linked (length front) (omega arith) in
+          let names = is_other.names_next (length front) (omega arith) in
           let goes_on : has_next (descriptor_at mem place number) ≡ true = subst (λ m. has_next (descriptor_at mem place m) ≡ true) same names.goes_on in
           absurd (false≢true (sym ends ∙ goes_on))
     ]

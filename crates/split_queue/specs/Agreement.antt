@@ -1,42 +1,41 @@
 -- When the two ends of a queue agree, and what a driver's chain is at the device's end: however its bytes are cut into
 -- pieces, the device gets the same. This project's own.
-use Rattle.std.specs.Prelude.{◌≡◌, ℕ, ◌+◌, ◌^◌, ◌<◌, ◌≤◌, List, length, take, drop, slice_index, All, Ok}
+use Rattle.std.specs.Prelude.{◌≡◌, ℕ, ◌^◌, ◌<◌, ◌≤◌, ◌⊎◌, List, length, take, drop, All, Ok}
 use Rattle.std.specs.List.{flat_map}
-use Rattle.guest_mem.specs.Memory.{bytes_at}
-use Rattle.split_queue.specs.Layout.{IsOutside, le16_at, table_bytes, available_bytes, used_bytes, available_idx, used_idx_addr}
-use Rattle.split_queue.specs.Rings.{QueueEnd, with_used}
-use Rattle.split_queue.specs.Drivers.{DriverState, post_answer, posted}
-use Rattle.split_queue.specs.Scatter.{PieceLiesIn, room_of}
-use Rattle.split_queue.specs.declared.place.Place.{Place}
+use Rattle.guest_mem.specs.Memory.{bytes_at, ChangesOnly}
+use Rattle.split_queue.specs.Chains.{most_descriptors, most_readable, room_of, PieceLiesIn, IsInPiece}
+use Rattle.split_queue.specs.DeviceEnds.{DeviceEndState}
+use Rattle.split_queue.specs.DriverEnds.{DriverEndState, post_answer, after_post, with_post, after_take}
+use Rattle.split_queue.specs.Rings.{available_idx, used_idx, with_used_entry, IsInRings}
+use Rattle.split_queue.specs.Setup.{table_area, IsInArea}
 use Rattle.split_queue.specs.declared.chain.Chain.{Chain}
 use Rattle.split_queue.specs.declared.chain.Piece.{Piece}
+use Rattle.split_queue.specs.declared.queue_place.Place.{Place}
 
 -- the ends of one queue agree: they lie at one place, and each ring stands at one index in both ends and in the memory
-pub record Agree (driver : DriverState) (device : QueueEnd) (mem : List ℕ) : Type 0 where
+pub record Agree (driver : DriverEndState) (device : DeviceEndState) (mem : List ℕ) : Type 0 where
   pub place : device.place ≡ driver.place
   pub driver_memory : driver.mem_len ≡ length mem
   pub device_memory : device.mem_len ≡ length mem
   pub available_idx : available_idx mem driver.place ≡ driver.next
   pub available_next : device.next ≡ driver.next
-  pub used_idx : le16_at mem (used_idx_addr driver.place) ≡ driver.used
+  pub used_idx : used_idx mem driver.place ≡ driver.used
   pub used_next : device.used ≡ driver.used
   pub available_small : driver.next < 2 ^ 16
   pub used_small : driver.used < 2 ^ 16
 
--- the address lies in none of the queue's three areas
-pub record IsOutsideQueue (place : Place) (addr : ℕ) : Type 0 where
-  pub table : IsOutside addr place.desc (table_bytes place.size)
-  pub available : IsOutside addr place.avail (available_bytes place.size)
-  pub used : IsOutside addr place.used (used_bytes place.size)
+-- the address lies in one of the queue's three areas
+abbrev pub IsInQueue : Place → ℕ → Type 0
+IsInQueue place addr = IsInArea (table_area place) addr ⊎ IsInRings place addr
 
 -- no byte of the piece lies in the queue's areas
 abbrev pub IsClearOf : Place → Piece → Type 0
-IsClearOf place piece = (addr : ℕ) → piece.addr ≤ addr → addr < piece.addr + piece.len → IsOutsideQueue place addr
+IsClearOf place piece = (addr : ℕ) → IsInPiece addr piece → ¬ IsInQueue place addr
 
 -- pieces that a device takes as they were posted, the first `readable` of them for it to read
 pub record ArePostable (mem_len : ℕ) (place : Place) (pieces : List Piece) (readable : ℕ) : Type 0 where
-  pub few : length pieces ≤ 64
-  pub short : room_of (take readable pieces) ≤ 1024
+  pub few : length pieces ≤ most_descriptors
+  pub short : room_of (take readable pieces) ≤ most_readable
   pub inside : All (PieceLiesIn mem_len) pieces
   pub clear : All (IsClearOf place) pieces
 
@@ -48,19 +47,31 @@ chain_of_pieces mem head pieces readable = record {
   writable = record { items = drop readable pieces };
 }
 
--- after has, in the queue's three areas, what before has
-pub record KeepsQueue (before after : List ℕ) (place : Place) : Type 0 where
-  pub size : length after ≡ length before
-  pub table : (addr : ℕ) → place.desc ≤ addr → addr < place.desc + table_bytes place.size → slice_index after addr ≡ slice_index before addr
-  pub available : (addr : ℕ) → place.avail ≤ addr → addr < place.avail + available_bytes place.size → slice_index after addr ≡ slice_index before addr
-  pub used : (addr : ℕ) → place.used ≤ addr → addr < place.used + used_bytes place.size → slice_index after addr ≡ slice_index before addr
+-- only bytes outside of the queue's three areas are changed
+abbrev pub KeepsQueue : List ℕ → List ℕ → Place → Type 0
+KeepsQueue before after place = ChangesOnly before after (λ addr. ¬ IsInQueue place addr)
 
--- a round of a queue whose ends agree: the driver posts a chain of these pieces, whose head is `first`, bytes outside of the
--- queue are written, and the device gives the chain back with a length
-pub record IsRound (driver : DriverState) (device : QueueEnd) (before written returned : List ℕ) (pieces : List Piece) (readable first len : ℕ) : Type 0 where
-  pub agree : Agree driver device before
-  pub some : 0 < length pieces
-  pub posts : post_answer driver (length pieces) ≡ Ok first
-  pub keeps : KeepsQueue (posted before driver pieces readable) written driver.place
-  pub short : len < 2 ^ 32
-  pub gives_back : returned ≡ with_used written device.place device.used first len
+-- what happens in a round of a queue: the driver posts a chain of pieces, of which so many are readable, and gets its
+-- head; the device writes outside of the queue, and gives the chain back with a length. The memories are those before
+-- the post, before the push and after it.
+pub record Round : Type 0 where
+  pub pieces : List Piece
+  pub readable : ℕ
+  pub head : ℕ
+  pub len : ℕ
+  pub at_post : List ℕ
+  pub at_push : List ℕ
+  pub at_take : List ℕ
+
+-- a round of two ends that agree before it
+pub record IsRound (driver : DriverEndState) (device : DeviceEndState) (round : Round) : Type 0 where
+  pub agree : Agree driver device round.at_post
+  pub some : 0 < length round.pieces
+  pub posts : post_answer driver (length round.pieces) ≡ Ok round.head
+  pub keeps : KeepsQueue (with_post round.at_post driver round.pieces round.readable) round.at_push driver.place
+  pub short : round.len < 2 ^ 32
+  pub gives_back : round.at_take ≡ with_used_entry round.at_push device.place device.used round.head round.len
+
+-- the driver's end after a round
+abbrev pub after_round : DriverEndState → Round → DriverEndState
+after_round driver round = after_take (after_post driver (length round.pieces)) round.head

@@ -1,10 +1,11 @@
 pub mod Agreement
 pub mod Chains
-pub mod Drivers
-pub mod Layout
+pub mod Descriptors
+pub mod DeviceEnds
+pub mod DriverEnds
 pub mod Pools
-pub mod Refusals
+pub mod QueuePlaces
+pub mod RingErrs
 pub mod Rings
-pub mod Scatter
 pub mod Setup
 pub mod Walks

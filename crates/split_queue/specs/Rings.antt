@@ -1,23 +1,12 @@
--- What the two rings of a queue say at an index, which wraps at 2^16, and what the device's end does to them (Virtio 1.4
--- draft, "The Virtqueue Available Ring" and "The Virtqueue Used Ring").
-use Rattle.std.specs.Prelude.{◌≡◌, ℕ, ◌+◌, ◌-◌, ◌^◌, ◌%◌, ◌==◌, nat_lt, nat_le, if◌then◌else◌, List, length, slice_index, Option, Some, None, Result, Ok, Err}
-use Rattle.split_queue.specs.Layout.{IsOutside, available_idx, available_head, with_le16, with_le32, used_idx_addr, used_element_addr}
-use Rattle.split_queue.specs.Chains.{chain_of}
-use Rattle.split_queue.specs.declared.place.Place.{Place}
-use Rattle.split_queue.specs.declared.chain.Chain.{Chain}
-use Rattle.split_queue.specs.declared.walk.RingErr.{RingErr}
-use Rattle.split_queue.specs.declared.walk.RingErr.TheVariants as fault
-
--- one end of a queue: its place in a memory of so many bytes, and the two indexes at which it goes on
-pub record QueueEnd : Type 0 where
-  pub place : Place
-  pub mem_len : ℕ
-  pub next : ℕ
-  pub used : ℕ
-
--- a device's end at a place in a memory of so many bytes, where both indexes start at `next`
-abbrev pub fresh_end : Place → ℕ → ℕ → QueueEnd
-fresh_end place mem_len next = record { place = place; mem_len = mem_len; next = next; used = next }
+-- What the two rings of a queue say at an index, which wraps at 2^16, and what is written into them (Virtio 1.4 draft,
+-- "The Virtqueue Available Ring" and "The Virtqueue Used Ring").
+use Rattle.std.specs.Prelude.{◌≡◌, ℕ, ◌+◌, ◌-◌, ◌%◌, ◌^◌, ◌⊎◌, List, slice_index}
+use Rattle.guest_mem.specs.Memory.{IsInRange, ChangesOnly}
+use Rattle.split_queue.specs.Descriptors.{le16_at, with_le16, with_le32}
+use Rattle.split_queue.specs.QueuePlaces.{available_slot_bytes, used_element_bytes, idx_bytes, available_idx_addr, available_slot_addr, used_idx_addr, used_element_addr}
+use Rattle.split_queue.specs.Setup.{available_area, used_area, IsInArea}
+use Rattle.split_queue.specs.declared.queue_place.Place.{Place}
+use Rattle.split_queue.specs.declared.setup.Area.{Area}
 
 -- the index after an index
 abbrev pub index_after : ℕ → ℕ
@@ -27,39 +16,57 @@ index_after index = (index + 1) % 2 ^ 16
 abbrev pub index_gap : ℕ → ℕ → ℕ
 index_gap from to = (to + (2 ^ 16 - from)) % 2 ^ 16
 
--- the head in a slot, where it is one of the queue's descriptors, and its chain
-abbrev pub chain_in_slot : List ℕ → Place → ℕ → Result Chain RingErr
-chain_in_slot mem place index =
-    let head = available_head mem place index in
-    if nat_le place.size head then Err (fault.BadHead head) else chain_of mem place head
+-- ---- the available ring
 
--- what was found, as what a pop answers
-abbrev pub as_popped : Result Chain RingErr → Result (Option Chain) RingErr
-as_popped (Ok chain) = Ok (Some chain)
-as_popped (Err f) = Err f
+-- the ring's index: where the driver puts the next head
+abbrev pub available_idx : List ℕ → Place → ℕ
+available_idx mem place = le16_at mem (available_idx_addr place)
 
--- what the device takes from the available ring: nothing where the indexes are equal, else the next chain
-unfoldable pub popped : List ℕ → Place → ℕ → Result (Option Chain) RingErr
-popped mem place index =
-    let idx = available_idx mem place in
-    if idx == index then Ok None
-    else (if nat_lt place.size (index_gap index idx) then Err (fault.IdxJump idx)
-    else as_popped (chain_in_slot mem place index))
+-- the head in the slot of an index
+abbrev pub available_head : List ℕ → Place → ℕ → ℕ
+available_head mem place index = le16_at mem (available_slot_addr place index)
 
--- the device's end after it took a chain, and after it gave one back
-abbrev pub after_pop : QueueEnd → QueueEnd
-after_pop end = record end { next = index_after end.next }
+-- the memory with a head in the slot of an index, and with the index after it
+unfoldable pub with_available_entry : List ℕ → Place → ℕ → ℕ → List ℕ
+with_available_entry mem place index head =
+    let with_head = with_le16 mem (available_slot_addr place index) head in
+    with_le16 with_head (available_idx_addr place) (index_after index)
 
-abbrev pub after_push : QueueEnd → QueueEnd
-after_push end = record end { used = index_after end.used }
+-- the address is one of the slot of an index, or of the ring's index
+abbrev pub IsInAvailableEntry : Place → ℕ → ℕ → Type 0
+IsInAvailableEntry place index addr =
+    IsInRange (available_slot_addr place index) available_slot_bytes addr
+    ⊎ IsInRange (available_idx_addr place) idx_bytes addr
 
--- the memory after the used ring got an element: le32 head and le32 length in the slot of the index, then the index after it
-unfoldable pub with_used : List ℕ → Place → ℕ → ℕ → ℕ → List ℕ
-with_used mem place index head len =
+-- ---- the used ring
+
+-- the ring's index: where the device puts the next element
+abbrev pub used_idx : List ℕ → Place → ℕ
+used_idx mem place = le16_at mem (used_idx_addr place)
+
+-- the memory with an element in the slot of an index, le32 head and le32 length, and with the index after it
+unfoldable pub with_used_entry : List ℕ → Place → ℕ → ℕ → ℕ → List ℕ
+with_used_entry mem place index head len =
     let element = used_element_addr place index in
     with_le16 (with_le32 (with_le32 mem element head) (element + 4) len) (used_idx_addr place) (index_after index)
 
--- after has, outside of that element and the index, what before has
-pub record ChangesOnlyUsed (before after : List ℕ) (place : Place) (index : ℕ) : Type 0 where
-  pub size : length after ≡ length before
-  pub others : (addr : ℕ) → IsOutside addr (used_element_addr place index) 8 → IsOutside addr (used_idx_addr place) 2 → slice_index after addr ≡ slice_index before addr
+-- the address is one of the element of an index, or of the ring's index
+abbrev pub IsInUsedEntry : Place → ℕ → ℕ → Type 0
+IsInUsedEntry place index addr =
+    IsInRange (used_element_addr place index) used_element_bytes addr ⊎ IsInRange (used_idx_addr place) idx_bytes addr
+
+-- ---- both rings
+
+-- the bytes of the area are zero, and only they are changed
+pub record ClearsArea (before after : List ℕ) (area : Area) : Type 0 where
+  pub zeros : (addr : ℕ) → IsInArea area addr → slice_index after addr ≡ 0
+  pub only : ChangesOnly before after (IsInArea area)
+
+-- the address lies in one of both rings, with their event fields
+abbrev pub IsInRings : Place → ℕ → Type 0
+IsInRings place addr = IsInArea (available_area place) addr ⊎ IsInArea (used_area place) addr
+
+-- both rings are zero, and only their bytes are changed
+pub record ClearsRings (before after : List ℕ) (place : Place) : Type 0 where
+  pub zeros : (addr : ℕ) → IsInRings place addr → slice_index after addr ≡ 0
+  pub only : ChangesOnly before after (IsInRings place)

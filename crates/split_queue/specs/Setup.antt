@@ -2,8 +2,9 @@
 -- project's own). Sums are those of numbers and never wrap.
 use Rattle.std.specs.Prelude.{ℕ, ◌+◌, ◌%◌, ◌^◌, ◌<◌, ◌≤◌, ◌==◌, ◌&&◌, ◌||◌, ◌⊎◌, Bool, not, nat_lt, nat_le, if◌then◌else◌, Option, Some, None}
 use Rattle.std.specs.Int.{is_power_of_two}
-use Rattle.split_queue.specs.Layout.{table_bytes, available_bytes, used_bytes}
-use Rattle.split_queue.specs.declared.place.Place.{Place}
+use Rattle.guest_mem.specs.Memory.{IsInRange}
+use Rattle.split_queue.specs.QueuePlaces.{table_bytes, available_bytes, used_bytes}
+use Rattle.split_queue.specs.declared.queue_place.Place.{Place}
 use Rattle.split_queue.specs.declared.setup.Area.{Area}
 use Rattle.split_queue.specs.declared.setup.SetupErr.{SetupErr}
 use Rattle.split_queue.specs.declared.setup.SetupErr.TheVariants as setup
@@ -18,6 +19,10 @@ available_area place = record { start = place.avail; len = available_bytes place
 abbrev pub used_area : Place → Area
 used_area place = record { start = place.used; len = used_bytes place.size }
 
+-- the address lies in the area
+abbrev pub IsInArea : Area → ℕ → Type 0
+IsInArea area addr = IsInRange area.start area.len addr
+
 -- the area lies in a memory of so many bytes
 abbrev pub lies_in : Area → ℕ → Bool
 lies_in area mem_len = nat_le (area.start + area.len) mem_len
@@ -26,15 +31,28 @@ lies_in area mem_len = nat_le (area.start + area.len) mem_len
 abbrev pub meets : Area → Area → Bool
 meets a b = nat_lt a.start (b.start + b.len) && nat_lt b.start (a.start + a.len)
 
--- the table stands at a multiple of 16, the available ring at one of 2, the used ring at one of 4
+-- of what the addresses of the areas are multiples
+abbrev pub table_align : ℕ
+table_align = 16
+
+abbrev pub available_align : ℕ
+available_align = 2
+
+abbrev pub used_align : ℕ
+used_align = 4
+
 abbrev pub is_aligned : Place → Bool
-is_aligned place = (place.desc % 16 == 0) && (place.avail % 2 == 0) && (place.used % 4 == 0)
+is_aligned place =
+    (place.desc % table_align == 0) && (place.avail % available_align == 0) && (place.used % used_align == 0)
 
 abbrev pub all_lie_in : Place → ℕ → Bool
-all_lie_in place mem_len = lies_in (table_area place) mem_len && lies_in (available_area place) mem_len && lies_in (used_area place) mem_len
+all_lie_in place mem_len =
+    lies_in (table_area place) mem_len && lies_in (available_area place) mem_len && lies_in (used_area place) mem_len
 
 abbrev pub some_meet : Place → Bool
-some_meet place = meets (table_area place) (available_area place) || meets (table_area place) (used_area place) || meets (available_area place) (used_area place)
+some_meet place =
+    meets (table_area place) (available_area place) || meets (table_area place) (used_area place)
+    || meets (available_area place) (used_area place)
 
 -- the first reason why the place can't hold a queue in a memory of so many bytes. A size has 16 bits, so a power of two
 -- is one from 1 to 32,768.

@@ -1,9 +1,16 @@
 //! What a device gets of a queue: a chain of buffers.
-ghost use Rattle.std.specs.Prelude.{◌≡◌, ◌≤◌, All, length, min};
-ghost use Rattle.split_queue.specs.Scatter.{room_of, PieceLiesIn, scattered, ChangesOnlyPieces};
+ghost use Rattle.std.specs.Prelude.{◌≡◌, ◌^◌, ◌<◌, All, length, min};
+ghost use Rattle.guest_mem.specs.Memory.{ChangesOnly};
+ghost use Rattle.split_queue.specs.Chains.{room_of, PieceLiesIn, with_bytes_in, IsInPieces};
 
 use arrayvec::ArrayVec;
 use guest_mem::GuestMem;
+
+/// How many descriptors a chain has at most.
+pub const MOST_DESCRIPTORS: usize = 64;
+
+/// How many bytes of a chain's readable buffers there are at most.
+pub const MOST_READABLE: usize = 1024;
 
 /// A buffer of the guest.
 #[derive(Clone, Copy, Debug, Default, PartialEq, Eq)]
@@ -20,9 +27,9 @@ pub struct Chain {
     /// The number of its first descriptor.
     pub head: u16,
     /// The bytes that the driver gave, from all of its readable buffers.
-    pub readable: ArrayVec<u8, 1024>,
+    pub readable: ArrayVec<u8, MOST_READABLE>,
     /// The buffers that the device may write, in order.
-    pub writable: ArrayVec<Piece, 64>,
+    pub writable: ArrayVec<Piece, MOST_DESCRIPTORS>,
 }
 
 impl Chain {
@@ -37,13 +44,14 @@ impl Chain {
             .sum()
     }
 
-    /// Writes as many of the bytes as there is room for into the writable buffers, in their order, and gives their number.
+    /// Writes as many of the bytes as there is room for into the writable buffers, in their order, and gives their
+    /// number.
     pub fn scatter(&self, mem: &mut GuestMem, bytes: &[u8]) -> u32
         requires inside { All (PieceLiesIn (length mem.old)) self.now.writable.items }
-        requires few { length bytes.now ≤ 272 }
+        requires short { length bytes.now < 2 ^ 32 }
         ensures count { result ≡ min (length bytes.now) (room_of self.now.writable.items) }
-        ensures written { mem.new ≡ scattered mem.old self.now.writable.items bytes.now }
-        ensures others { ChangesOnlyPieces mem.old mem.new self.now.writable.items }
+        ensures written { mem.new ≡ with_bytes_in mem.old self.now.writable.items bytes.now }
+        ensures others { ChangesOnly mem.old mem.new (IsInPieces self.now.writable.items) }
     {
         let mut rest = bytes;
         for piece in self.writable.as_slice() {

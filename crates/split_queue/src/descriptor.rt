@@ -1,15 +1,20 @@
 //! A descriptor of a queue's table, and the numbers of the layout.
 ghost use Rattle.std.specs.Prelude.{◌≡◌, ◌+◌, ◌*◌, ◌<◌, ◌≤◌, length};
-ghost use Rattle.split_queue.specs.Layout.{ChangesOnly, with_le16, with_le32, with_le64, with_descriptor, le16_at, le32_at, le64_at, descriptor_at, has_next, is_writable, is_indirect};
+ghost use Rattle.guest_mem.specs.Memory.{ChangesOnly, IsInRange};
+ghost use Rattle.split_queue.specs.Descriptors.{with_le16, with_le32, with_le64, with_descriptor, le16_at, le32_at, le64_at, descriptor_at, has_next, is_writable, is_indirect};
+ghost use Rattle.split_queue.specs.QueuePlaces.{descriptor_bytes, descriptor_addr};
 ghost use Rattle.split_queue.specs.Setup.{IsPlaced};
 
-use crate::place::Place;
+use crate::queue_place::Place;
 use guest_mem::GuestMem;
 
+/// The flag of a descriptor after which the chain goes on.
 pub(crate) const NEXT: u16 = 1;
 
+/// The flag of a buffer that the device writes.
 pub(crate) const WRITE: u16 = 2;
 
+/// The flag of a buffer that holds a table of descriptors.
 const INDIRECT: u16 = 4;
 
 /// A buffer of the guest, and the descriptor that follows.
@@ -23,13 +28,13 @@ pub(crate) struct Descriptor {
 
 impl Descriptor {
     /// The descriptor with a number, as it stands in the table.
-    #[tactic(auto, unfolding(crate::specs::Layout::descriptor_at))]
+    #[tactic(auto, unfolding(crate::specs::Descriptors::descriptor_at))]
     pub(crate) fn read(mem: &GuestMem, place: Place, number: u16) -> Descriptor
         requires placed { IsPlaced place (length mem.now) }
         requires number { number < place.size }
         ensures { result ≡ descriptor_at mem.now place number }
     {
-        let at = place.desc + 16 * number as u64;
+        let at = place.descriptor_addr(number);
         Descriptor {
             addr: le64(mem, at),
             len: le32(mem, at + 8),
@@ -39,14 +44,14 @@ impl Descriptor {
     }
 
     /// Writes it into the table, at a number.
-    #[tactic(auto, unfolding(crate::specs::Layout::with_descriptor))]
+    #[tactic(auto, unfolding(crate::specs::Descriptors::with_descriptor))]
     pub(crate) fn put(self, mem: &mut GuestMem, place: Place, number: u16)
         requires placed { IsPlaced place (length mem.old) }
         requires number { number < place.size }
         ensures value { mem.new ≡ with_descriptor mem.old place number self }
-        ensures others { ChangesOnly mem.old mem.new (place.desc + 16 * number) 16 }
+        ensures others { ChangesOnly mem.old mem.new (IsInRange (descriptor_addr place number) descriptor_bytes) }
     {
-        let at = place.desc + 16 * number as u64;
+        let at = place.descriptor_addr(number);
         put_le64(mem, at, self.addr);
         put_le32(mem, at + 8, self.len);
         put_le16(mem, at + 12, self.flags);
@@ -76,7 +81,7 @@ impl Descriptor {
 }
 
 /// The number of 16 bits at an address.
-#[tactic(auto, unfolding(crate::specs::Layout::le16_at))]
+#[tactic(auto, unfolding(crate::specs::Descriptors::le16_at))]
 pub(crate) fn le16(mem: &GuestMem, addr: u64) -> u16
     requires { addr + 2 ≤ length mem.now }
     ensures { result ≡ le16_at mem.now addr }
@@ -87,7 +92,7 @@ pub(crate) fn le16(mem: &GuestMem, addr: u64) -> u16
 }
 
 /// The number of 32 bits at an address.
-#[tactic(auto, unfolding(crate::specs::Layout::le32_at))]
+#[tactic(auto, unfolding(crate::specs::Descriptors::le32_at))]
 pub(crate) fn le32(mem: &GuestMem, addr: u64) -> u32
     requires { addr + 4 ≤ length mem.now }
     ensures { result ≡ le32_at mem.now addr }
@@ -98,7 +103,7 @@ pub(crate) fn le32(mem: &GuestMem, addr: u64) -> u32
 }
 
 /// The number of 64 bits at an address.
-#[tactic(auto, unfolding(crate::specs::Layout::le64_at))]
+#[tactic(auto, unfolding(crate::specs::Descriptors::le64_at))]
 pub(crate) fn le64(mem: &GuestMem, addr: u64) -> u64
     requires { addr + 8 ≤ length mem.now }
     ensures { result ≡ le64_at mem.now addr }
@@ -109,31 +114,31 @@ pub(crate) fn le64(mem: &GuestMem, addr: u64) -> u64
 }
 
 /// Writes a number of 16 bits at an address.
-#[tactic(auto, unfolding(crate::specs::Layout::with_le16))]
+#[tactic(auto, unfolding(crate::specs::Descriptors::with_le16))]
 pub(crate) fn put_le16(mem: &mut GuestMem, addr: u64, number: u16)
     requires { addr + 2 ≤ length mem.old }
     ensures value { mem.new ≡ with_le16 mem.old addr number }
-    ensures others { ChangesOnly mem.old mem.new addr 2 }
+    ensures others { ChangesOnly mem.old mem.new (IsInRange addr 2) }
 {
     mem.write(addr, &number.to_le_bytes()).unwrap();
 }
 
 /// Writes a number of 32 bits at an address.
-#[tactic(auto, unfolding(crate::specs::Layout::with_le32))]
+#[tactic(auto, unfolding(crate::specs::Descriptors::with_le32))]
 pub(crate) fn put_le32(mem: &mut GuestMem, addr: u64, number: u32)
     requires { addr + 4 ≤ length mem.old }
     ensures value { mem.new ≡ with_le32 mem.old addr number }
-    ensures others { ChangesOnly mem.old mem.new addr 4 }
+    ensures others { ChangesOnly mem.old mem.new (IsInRange addr 4) }
 {
     mem.write(addr, &number.to_le_bytes()).unwrap();
 }
 
 /// Writes a number of 64 bits at an address.
-#[tactic(auto, unfolding(crate::specs::Layout::with_le64))]
+#[tactic(auto, unfolding(crate::specs::Descriptors::with_le64))]
 fn put_le64(mem: &mut GuestMem, addr: u64, number: u64)
     requires { addr + 8 ≤ length mem.old }
     ensures value { mem.new ≡ with_le64 mem.old addr number }
-    ensures others { ChangesOnly mem.old mem.new addr 8 }
+    ensures others { ChangesOnly mem.old mem.new (IsInRange addr 8) }
 {
     mem.write(addr, &number.to_le_bytes()).unwrap();
 }

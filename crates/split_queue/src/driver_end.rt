@@ -1,17 +1,20 @@
 //! The driver's end of a queue.
 ghost use Rattle.std.specs.Prelude.{◌≡◌, ℕ, ◌+◌, ◌^◌, ◌<◌, ◌≤◌, Some, None, All, Contains, length, replicate, reverse, slice_index, IfOk, IfErr, IfSome, OnOk, OnErr, MatchOption};
-ghost use Rattle.split_queue.specs.Setup.{setup_fault, IsPlaced};
-ghost use Rattle.split_queue.specs.Pools.{owner_of, out_count};
-ghost use Rattle.split_queue.specs.Drivers.{ClearsArea, ClearsRings, ChangesOnlyFree, ChangesOnlySlot, ChangesOnlyPosted, given, link, with_descriptors, with_available, post_answer, posted, after_given, after_post, taken, after_take, IsEnd};
-ghost use Rattle.split_queue.specs.Rings.{QueueEnd, fresh_end, popped};
+ghost use Rattle.guest_mem.specs.Memory.{ChangesOnly};
 ghost use Rattle.split_queue.specs.Agreement.{Agree, ArePostable, chain_of_pieces};
+ghost use Rattle.split_queue.specs.DeviceEnds.{DeviceEndState, device_start, pop_answer};
+ghost use Rattle.split_queue.specs.DriverEnds.{IsInFreeDescriptor, IsInPost, chain_numbers, piece_descriptor, with_descriptors, post_answer, with_post, pool_after_post, after_post, take_answer, after_take, IsValidDriver};
+ghost use Rattle.split_queue.specs.Pools.{owner_of, out_count, first_free};
+ghost use Rattle.split_queue.specs.Rings.{ClearsRings};
+ghost use Rattle.split_queue.specs.Setup.{setup_fault, IsPlaced};
 ghost use Rattle.split_queue.specs.declared.setup.SetupErr.{SetupErr};
 
 use crate::chain::Piece;
-use crate::descriptor::{Descriptor, NEXT, WRITE, le16, le32, put_le16};
+use crate::descriptor::{Descriptor, NEXT, WRITE, le32};
 use crate::driver_err::{DriverErr, PostErr, TakeErr};
-use crate::place::Place;
 use crate::pool::Pool;
+use crate::queue_place::Place;
+use crate::ring::{clear_rings, put_available, used_idx};
 use crate::setup::setup_fault;
 use guest_mem::GuestMem;
 use std::alloc::Global;
@@ -30,9 +33,9 @@ pub struct DriverEnd {
 }
 
 impl Model for DriverEnd {
-    ghost use Rattle.split_queue.specs.Drivers.{DriverState, IsDriver};
+    ghost use Rattle.split_queue.specs.DriverEnds.{DriverEndState, IsDriver};
 
-    ghost Value = { DriverState };
+    ghost Value = { DriverEndState };
 
     ghost view = { λ e. record { place = e.place; mem_len = e.mem_len; next = e.next; used = e.used; pool = e.pool } };
 
@@ -43,13 +46,16 @@ impl DriverEnd {
     /// The end of a fresh queue at the place. It clears both rings, with their event fields, and starts at index 0.
     pub fn new(alloc: Global, place: Place, mem: &mut GuestMem) -> Result<DriverEnd, DriverErr>
         ensures setup { IfSome (setup_fault place (length mem.old)) (λ fault. result ≡ Err (DriverErr.Setup fault)) }
-        ensures cause { IfErr result (λ err. (fault : SetupErr) → err ≡ DriverErr.Setup fault → setup_fault place (length mem.old) ≡ Some fault) }
-        ensures ok { IfOk result (λ end. (end.place ≡ place) × (end.mem_len ≡ length mem.new) × (end.next ≡ 0) × (end.used ≡ 0)) }
-        ensures free { IfOk result (λ end. (end.pool.owners ≡ replicate place.size None) × (length end.pool.free ≡ place.size)) }
+        ensures cause { IfErr result (λ err. (fault : SetupErr) → err ≡ DriverErr.Setup fault
+            → setup_fault place (length mem.old) ≡ Some fault) }
+        ensures ok { IfOk result (λ end. (end.place ≡ place) × (end.mem_len ≡ length mem.new)
+            × (end.next ≡ 0) × (end.used ≡ 0)) }
+        ensures free { IfOk result (λ end. (end.pool.owners ≡ replicate place.size None)
+            × (length end.pool.free ≡ place.size)) }
         ensures memory { OnOk result (ClearsRings mem.old mem.new place) }
 
         // It agrees with the device's end that starts at index 0.
-        ensures agree { IfOk result (λ end. Agree end (fresh_end place (length mem.new) 0) mem.new) }
+        ensures agree { IfOk result (λ end. Agree end (device_start place (length mem.new) 0) mem.new) }
         ensures err { OnErr result (mem.new ≡ mem.old) }
     {
         let mem_len = mem.len();
@@ -69,15 +75,18 @@ impl DriverEnd {
         })
     }
 
-    /// What every end keeps: its queue lies in the memory, and its free descriptors are distinct ones of the queue.
-    pub fn keeps(&self)
-        ensures { IsEnd self.now }
+    /// How many descriptors are free.
+    pub fn free_len(&self) -> usize
+        ensures value { result ≡ length self.now.pool.free }
+
+        // Its queue lies in the memory, and its free descriptors are distinct ones of the queue.
+        ensures valid { IsValidDriver self.now }
     {
-        let _ = self.pool.free_len();
+        self.pool.free_len()
     }
 
-    /// Makes a chain available: the first `readable` pieces are for the device to read, the others for it to write. It gives
-    /// the chain's head, and refuses where fewer descriptors are free than there are pieces.
+    /// Makes a chain available: the first `readable` pieces are for the device to read, the others for it to write. It
+    /// gives the chain's head, and refuses where fewer descriptors are free than there are pieces.
     pub fn post(
         &mut self,
         mem: &mut GuestMem,
@@ -88,15 +97,17 @@ impl DriverEnd {
         requires within { readable ≤ length pieces.now }
         requires memory { length mem.old ≡ self.old.mem_len }
         ensures answer { result ≡ post_answer self.old (length pieces.now) }
-        ensures counted { out_count self.old.pool.owners + length self.old.pool.free ≡ self.old.place.size }
-        ensures was_free { IfOk result (λ head. (head < self.old.place.size) × (owner_of self.old.pool.owners head ≡ None)) }
-        ensures memory { OnOk result (mem.new ≡ posted mem.old self.old pieces.now readable) }
-        ensures others { OnOk result (ChangesOnlyPosted mem.old mem.new self.old.place self.old.pool.owners self.old.next) }
+        ensures count { out_count self.old.pool.owners + length self.old.pool.free ≡ self.old.place.size }
+        ensures was_free { IfOk result (λ head. (head < self.old.place.size)
+            × (owner_of self.old.pool.owners head ≡ None)) }
+        ensures memory { OnOk result (mem.new ≡ with_post mem.old self.old pieces.now readable) }
+        ensures others { OnOk result (ChangesOnly mem.old mem.new (IsInPost self.old)) }
 
         // A device's end that agrees pops just these pieces: the readable ones' bytes, joined, and the writable ones.
-        ensures pops { IfOk result (λ head. (device : QueueEnd) → Agree self.old device mem.old
+        ensures pops { IfOk result (λ head. (device : DeviceEndState) → Agree self.old device mem.old
             → ArePostable (length mem.old) self.old.place pieces.now readable
-            → popped mem.new device.place device.next ≡ Ok (Some (chain_of_pieces mem.old head pieces.now readable))) }
+            → pop_answer mem.new device.place device.next
+            ≡ Ok (Some (chain_of_pieces mem.old head pieces.now readable))) }
         ensures state { OnOk result (self.new ≡ after_post self.old (length pieces.now)) }
         ensures err { OnErr result (self.new ≡ self.old) }
         ensures err_memory { OnErr result (mem.new ≡ mem.old) }
@@ -116,12 +127,15 @@ impl DriverEnd {
     /// descriptors are free from then on.
     pub fn take(&mut self, mem: &GuestMem) -> Result<Option<(u16, u32)>, TakeErr>
         requires { length mem.now ≡ self.old.mem_len }
-        ensures answer { result ≡ taken mem.now self.old.place self.old.pool self.old.used }
-        ensures ok { IfOk result (λ element. MatchOption element (self.new ≡ self.old) (λ e. self.new ≡ after_take self.old e.0)) }
+        ensures answer { result ≡ take_answer mem.now self.old.place self.old.pool self.old.used }
+        ensures ok { IfOk result (λ element. MatchOption element (self.new ≡ self.old)
+            (λ e. self.new ≡ after_take self.old e.0)) }
 
         // Each descriptor that was out in the chain is in no chain then, and stands in the free list.
-        ensures freed { IfOk result (λ element. IfSome element (λ e. (number : ℕ) → owner_of self.old.pool.owners number ≡ Some e.0 → owner_of self.new.pool.owners number ≡ None)) }
-        ensures listed { IfOk result (λ element. IfSome element (λ e. (number : ℕ) → owner_of self.old.pool.owners number ≡ Some e.0 → Contains self.new.pool.free number)) }
+        ensures in_no_chain { IfOk result (λ element. IfSome element (λ e. (number : ℕ)
+            → owner_of self.old.pool.owners number ≡ Some e.0 → owner_of self.new.pool.owners number ≡ None)) }
+        ensures free_list { IfOk result (λ element. IfSome element (λ e. (number : ℕ)
+            → owner_of self.old.pool.owners number ≡ Some e.0 → Contains self.new.pool.free number)) }
         ensures err { OnErr result (self.new ≡ self.old) }
     {
         let element = next_used(mem, self.place, &self.pool, self.used)?;
@@ -134,7 +148,7 @@ impl DriverEnd {
 }
 
 /// What stands in the used ring at an index.
-#[tactic(auto, unfolding(crate::specs::Drivers::taken))]
+#[tactic(auto, unfolding(crate::specs::DriverEnds::take_answer))]
 fn next_used(
     mem: &GuestMem,
     place: Place,
@@ -142,42 +156,20 @@ fn next_used(
     index: u16,
 ) -> Result<Option<(u16, u32)>, TakeErr>
     requires { IsPlaced place (length mem.now) }
-    ensures { result ≡ taken mem.now place pool.now index }
+    ensures { result ≡ take_answer mem.now place pool.now index }
 {
-    let idx = le16(mem, place.used + 2);
+    let idx = used_idx(mem, place);
     if idx == index {
         return Ok(None);
     }
     if idx.wrapping_sub(index) > place.size {
         return Err(TakeErr::IdxJump(idx));
     }
-    let slot = index % place.size;
-    let element = place.used + 4 + 8 * slot as u64;
+    let element = place.used_element_addr(index);
     let id = le32(mem, element);
     match pool.head_of(id) {
         Some(head) => Ok(Some((head, le32(mem, element + 4)))),
         None => Err(TakeErr::BadId(id)),
-    }
-}
-
-/// Writes zeros over both rings.
-fn clear_rings(mem: &mut GuestMem, place: Place)
-    requires { IsPlaced place (length mem.old) }
-    ensures { ClearsRings mem.old mem.new place }
-{
-    let size = place.size as u64;
-    clear(mem, place.avail, 6 + 2 * size);
-    clear(mem, place.used, 6 + 8 * size);
-}
-
-/// Writes zeros over so many bytes.
-fn clear(mem: &mut GuestMem, start: u64, count: u64)
-    requires within { start + count ≤ length mem.old }
-    requires short { start + count < 2 ^ 64 }
-    ensures { ClearsArea mem.old mem.new start count }
-{
-    for cleared in 0..count {
-        mem.write(start + cleared, &[0]).unwrap();
     }
 }
 
@@ -191,26 +183,33 @@ fn put_chain(
     readable: usize,
 )
     requires placed { IsPlaced place (length mem.old) }
-    requires sized { length pool.old.owners ≡ place.size }
+    requires same_size { length pool.old.owners ≡ place.size }
     requires enough { length pieces.now ≤ length pool.old.free }
-    requires first { head ≡ slice_index (reverse pool.old.free) 0 }
-    ensures memory { mem.new ≡ with_descriptors mem.old place (given (length pieces.now) pool.old.free) pieces.now readable }
-    ensures others { ChangesOnlyFree mem.old mem.new place pool.old.owners }
-    ensures pool { pool.new ≡ after_given pool.old (length pieces.now) }
-    ensures sized { length pool.new.owners ≡ place.size }
+    requires first { head ≡ first_free pool.old.free }
+    ensures memory { let numbers = chain_numbers (length pieces.now) pool.old.free in
+        mem.new ≡ with_descriptors mem.old place numbers pieces.now readable }
+    ensures others { ChangesOnly mem.old mem.new (IsInFreeDescriptor place pool.old.owners) }
+    ensures pool { pool.new ≡ pool_after_post pool.old (length pieces.now) }
+    ensures same_size { length pool.new.owners ≡ place.size }
     ensures lens { All (λ p. p.len < 2 ^ 32) pieces.now }
 {
     for (i, piece) in pieces.iter().enumerate() {
         let number = pool.claim(head);
-        let link = make_link(*piece, readable.saturating_sub(i), &pieces[i + 1..], pool);
-        link.put(mem, place, number);
+        let descriptor = piece_descriptor(
+            *piece,
+            readable.saturating_sub(i),
+            &pieces[i + 1..],
+            pool,
+        );
+        descriptor.put(mem, place, number);
     }
 }
 
 /// The descriptor of a piece, of which on so many are readable, where these follow it.
-fn make_link(piece: Piece, readable: usize, later: &[Piece], pool: &Pool) -> Descriptor
+fn piece_descriptor(piece: Piece, readable: usize, later: &[Piece], pool: &Pool) -> Descriptor
     requires { length later.now ≤ length pool.now.free }
-    ensures value { result ≡ link piece readable later.now (given (length later.now) pool.now.free) }
+    ensures value { let numbers = chain_numbers (length later.now) pool.now.free in
+        result ≡ piece_descriptor piece readable later.now numbers }
     ensures small { piece.len < 2 ^ 32 }
 {
     let last = later.is_empty();
@@ -221,16 +220,4 @@ fn make_link(piece: Piece, readable: usize, later: &[Piece], pool: &Pool) -> Des
         flags: if last { direction } else { NEXT + direction },
         next: if last { 0 } else { pool.first() },
     }
-}
-
-/// Writes a head into the available ring at an index, and then the index after it.
-#[tactic(auto, unfolding(crate::specs::Drivers::with_available))]
-fn put_available(mem: &mut GuestMem, place: Place, index: u16, head: u16)
-    requires { IsPlaced place (length mem.old) }
-    ensures memory { mem.new ≡ with_available mem.old place index head }
-    ensures others { ChangesOnlySlot mem.old mem.new place index }
-{
-    let slot = index % place.size;
-    put_le16(mem, place.avail + 4 + 2 * slot as u64, head);
-    put_le16(mem, place.avail + 2, index.wrapping_add(1));
 }

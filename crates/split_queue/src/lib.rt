@@ -1,43 +1,50 @@
 //! Both ends of a split virtqueue over guest memory.
 //!
-//! The layout is that of the Virtio 1.4 draft ("Split Virtqueues"): a table of descriptors, the ring in which the driver
-//! makes chains available, and the ring in which the device gives them back. The event index is left out, so neither end
-//! looks at the event fields. Which faults of a ring a device reports, and their order, are this project's own.
+//! The layout is that of the Virtio 1.4 draft ("Split Virtqueues"): a table of descriptors, the ring in which the
+//! driver makes chains available, and the ring in which the device gives them back. The event index is left out, so
+//! neither end looks at the event fields. Which faults of a ring a device reports, and their order, are this project's
+//! own.
 //!
-//! [`DeviceEnd::pop`] promises the chain of the layout, or its first fault, whatever bytes a hostile guest wrote: a chain
-//! that loops, leaves the memory or is too long is refused, and the end is then as it was. [`DeviceEnd::push_used`] writes
-//! one element and the index. [`DriverEnd::post`] writes the descriptors of a chain, its head and the available index, and
-//! nothing else; [`DriverEnd::take`] takes back what the device gave back. No call but [`DriverEnd::new`] asks for memory.
+//! [`DeviceEnd::pop`] promises the chain of the layout, or its first fault, whatever bytes a hostile guest wrote: a
+//! chain that loops, leaves the memory or is too long is refused, and the end is then as it was.
+//! [`DeviceEnd::push_used`] writes one element and the index. [`DriverEnd::post`] writes the descriptors of a chain,
+//! its head and the available index, and nothing else; [`DriverEnd::take`] takes back what the device gave back. No
+//! call but [`DriverEnd::new`] asks for memory. In which order one call writes its bytes, no contract says.
 //!
-//! Both ends of a fresh queue agree, and bytes outside of the queue don't change that. After a round of post, pop, push and
-//! take they agree again: the take gives the chain that was pushed, and no fewer descriptors are free than before
+//! Both ends of a fresh queue agree, and bytes outside of the queue don't change that. After a round of post, pop, push
+//! and take they agree again: the take gives the chain that was pushed, and no fewer descriptors are free than before
 //! ([`rounds_keep_agreement`]).
 //!
-//! The modules, lowest first: `place` (where a queue lies), `setup` (whether it may lie there), `descriptor`, `chain`
-//! (what a device gets), `walk` (from a head to a chain), `device_end`; `pool` (which descriptors are free), `driver_err`,
-//! `driver_end`, `laws` (of both ends together). The definitions stand in specs/: `Layout`, `Setup`, `Chains` (a chain or its
-//! first fault), `Walks` (what the walk is, in its own words), `Refusals` (what each fault says, in the same words),
-//! `Scatter`, `Rings`, `Pools`, `Drivers`, `Agreement`.
+//! The modules, lowest first: `queue_place` (where a queue lies), `setup` (whether it may lie there), `descriptor` (and
+//! numbers in memory), `ring`, `chain` (what a device gets), `ring_err`, `walk` (from a head to its chain),
+//! `device_end`; `pool` (which descriptors are free), `driver_err`, `driver_end`; `agreement` (laws of both ends
+//! together). The definitions stand in specs/, those of a module under its name: `QueuePlaces`, `Setup`, `Descriptors`,
+//! `Rings`, `Chains`, `RingErrs` (what each fault says), `Walks` (what a walk is, in its own words, and the chain of a
+//! head), `DeviceEnds`, `Pools`, `DriverEnds`, `Agreement`.
 #![tactic(auto)]
 
+mod agreement;
 mod chain;
 mod descriptor;
 mod device_end;
 mod driver_end;
 mod driver_err;
-mod laws;
-mod place;
 mod pool;
+mod queue_place;
+mod ring;
+mod ring_err;
 mod setup;
 #[cfg(test)]
 mod tests;
 mod walk;
 
-pub use chain::{Chain, Piece};
+pub use agreement::{
+    other_bytes_keep_agreement, rounds_keep_agreement, writable_pieces_keep_the_queue,
+};
+pub use chain::{Chain, MOST_DESCRIPTORS, MOST_READABLE, Piece};
 pub use device_end::DeviceEnd;
 pub use driver_end::DriverEnd;
 pub use driver_err::{DriverErr, PostErr, TakeErr};
-pub use laws::{other_bytes_keep_agreement, rounds_keep_agreement, writable_pieces_keep_the_queue};
-pub use place::Place;
+pub use queue_place::Place;
+pub use ring_err::RingErr;
 pub use setup::SetupErr;
-pub use walk::RingErr;

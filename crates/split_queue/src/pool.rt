@@ -1,6 +1,6 @@
 //! The descriptors of a driver's table: which are free, and which are out in which chain.
 ghost use Rattle.std.specs.Prelude.{◌≡◌, ◌+◌, ◌^◌, ◌<◌, ◌∷◌, ◌++◌, [], Some, None, replicate, length, reverse, slice_index, slice_set, if◌then◌else◌, IsSome, IfOk};
-ghost use Rattle.split_queue.specs.Pools.{owner_of, owned_by, heads_chain, after_release, out_count, IsFreeList};
+ghost use Rattle.split_queue.specs.Pools.{owner_of, first_free, is_owned_by, is_chain_head, after_release, out_count, AreFree};
 
 use std::alloc::{AllocError, Global};
 use std::marker::Model;
@@ -29,11 +29,11 @@ impl Pool {
     /// So many descriptors, all free.
     pub(crate) fn new(alloc: Global, size: u16) -> Result<Pool, AllocError>
         ensures owners { IfOk result (λ pool. pool.owners ≡ replicate size None) }
-        ensures counted { IfOk result (λ pool. length pool.free ≡ size) }
+        ensures count { IfOk result (λ pool. length pool.free ≡ size) }
     {
         let mut free = Vec::with_capacity(alloc, size as usize)?;
-        for given in 0..size {
-            free.push_reserved(size - 1 - given);
+        for i in 0..size {
+            free.push_reserved(size - 1 - i);
         }
         Ok(Pool {
             owners: vec![in alloc; None; size as usize]?,
@@ -44,10 +44,10 @@ impl Pool {
     /// How many descriptors are free.
     pub(crate) fn free_len(&self) -> usize
         ensures value { result ≡ length self.now.free }
-        ensures counted { out_count self.now.owners + result ≡ length self.now.owners }
+        ensures count { out_count self.now.owners + result ≡ length self.now.owners }
         ensures small { result < 2 ^ 16 }
-        ensures listed { IsFreeList self.now.owners self.now.free }
-        ensures numbered { length self.now.owners < 2 ^ 16 }
+        ensures free_list { AreFree self.now.owners self.now.free }
+        ensures few { length self.now.owners < 2 ^ 16 }
     {
         self.free.len()
     }
@@ -55,7 +55,7 @@ impl Pool {
     /// The free descriptor that is given out next.
     pub(crate) fn first(&self) -> u16
         requires { 0 < length self.now.free }
-        ensures value { result ≡ slice_index (reverse self.now.free) 0 }
+        ensures value { result ≡ first_free self.now.free }
         ensures was_free { owner_of self.now.owners result ≡ None }
         ensures within { result < length self.now.owners }
     {
@@ -77,7 +77,7 @@ impl Pool {
 
     /// The number as a head, where it is the head of a chain that is out.
     pub(crate) fn head_of(&self, id: u32) -> Option<u16>
-        ensures { result ≡ (if heads_chain self.now.owners id then Some id else None) }
+        ensures { result ≡ (if is_chain_head self.now.owners id then Some id else None) }
     {
         match self.owners.get(id as usize) {
             Some(Some(head)) if *head as u32 == id => Some(*head),
@@ -105,7 +105,7 @@ impl Pool {
 
     fn is_owned(&self, number: usize, head: u16) -> bool
         requires { number < length self.now.owners }
-        ensures { result ≡ owned_by head (owner_of self.now.owners number) }
+        ensures { result ≡ is_owned_by head (owner_of self.now.owners number) }
     {
         match self.owners[number] {
             Some(owner) => owner == head,

@@ -1,9 +1,18 @@
 //! Whether a queue may lie at a place.
 ghost use Rattle.std.specs.Prelude.{◌≡◌, ◌+◌, ◌^◌, ◌<◌, IfNone};
-ghost use Rattle.split_queue.specs.Layout.{table_bytes, available_bytes, used_bytes};
+ghost use Rattle.split_queue.specs.QueuePlaces.{table_bytes, available_bytes, used_bytes};
 ghost use Rattle.split_queue.specs.Setup.{table_area, available_area, used_area, lies_in, meets, is_aligned, all_lie_in, some_meet, setup_fault, IsPlaced};
 
-use crate::place::Place;
+use crate::queue_place::{
+    AVAILABLE_SLOT_BYTES, DESCRIPTOR_BYTES, Place, RING_EVENT_BYTES, RING_HEAD_BYTES,
+    USED_ELEMENT_BYTES,
+};
+
+const TABLE_ALIGN: u64 = 16;
+
+const AVAILABLE_ALIGN: u64 = 2;
+
+const USED_ALIGN: u64 = 4;
 
 /// Why a queue can't be set up. The first that holds is given.
 #[derive(Clone, Copy, Debug, PartialEq, Eq)]
@@ -65,7 +74,9 @@ pub(crate) fn setup_fault(place: Place, mem_len: u64) -> Option<SetupErr>
 fn is_aligned(place: Place) -> bool
     ensures { result ≡ is_aligned place }
 {
-    place.desc % 16 == 0 && place.avail % 2 == 0 && place.used % 4 == 0
+    place.desc % TABLE_ALIGN == 0
+        && place.avail % AVAILABLE_ALIGN == 0
+        && place.used % USED_ALIGN == 0
 }
 
 fn table_area(place: Place) -> Area
@@ -73,25 +84,25 @@ fn table_area(place: Place) -> Area
 {
     Area {
         start: place.desc,
-        len: 16 * place.size as u64,
+        len: DESCRIPTOR_BYTES * place.size as u64,
     }
 }
 
-fn available_area(place: Place) -> Area
+pub(crate) fn available_area(place: Place) -> Area
     ensures { result ≡ available_area place }
 {
     Area {
         start: place.avail,
-        len: 6 + 2 * place.size as u64,
+        len: RING_HEAD_BYTES + AVAILABLE_SLOT_BYTES * place.size as u64 + RING_EVENT_BYTES,
     }
 }
 
-fn used_area(place: Place) -> Area
+pub(crate) fn used_area(place: Place) -> Area
     ensures { result ≡ used_area place }
 {
     Area {
         start: place.used,
-        len: 6 + 8 * place.size as u64,
+        len: RING_HEAD_BYTES + USED_ELEMENT_BYTES * place.size as u64 + RING_EVENT_BYTES,
     }
 }
 

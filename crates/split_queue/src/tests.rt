@@ -11,7 +11,8 @@ const RING: Place = Place {
     used: 80,
 };
 
-// A command of 24 bytes in descriptor 0 with the given next, and room for 8 bytes in descriptor 1. The available index is 0.
+// A command of 24 bytes in descriptor 0 with the given next, and room for 8 bytes in descriptor 1. The available index
+// is 0.
 fn memory(alloc: Global, next: u8) -> Result<GuestMem, AllocError> {
     let mut mem = GuestMem::zeros(alloc, 256)?;
     let _ = mem.write(

@@ -1,37 +1,16 @@
 //! The walk from a head along the descriptors of its chain.
 ghost use Rattle.std.specs.Prelude.{◌≡◌, ◌+◌, ◌<◌, true, nat_le, length, IfSome, IfNone, IfOk, OnOk};
-ghost use Rattle.split_queue.specs.Layout.{descriptor_at, has_next};
+ghost use Rattle.split_queue.specs.Chains.{most_descriptors};
+ghost use Rattle.split_queue.specs.Descriptors.{descriptor_at, has_next};
 ghost use Rattle.split_queue.specs.Setup.{IsPlaced};
-ghost use Rattle.split_queue.specs.Chains.{with_buffer, buffer_fault, next_fault, next_of, chain_of, BufferFits};
+ghost use Rattle.split_queue.specs.Walks.{with_buffer, buffer_fault, next_fault, next_in_chain, chain_of, BufferFits};
 
-use crate::chain::{Chain, Piece};
+use crate::chain::{Chain, MOST_DESCRIPTORS, MOST_READABLE, Piece};
 use crate::descriptor::Descriptor;
-use crate::place::Place;
+use crate::queue_place::Place;
+use crate::ring_err::RingErr;
 use arrayvec::ArrayVec;
 use guest_mem::GuestMem;
-
-/// The first fault of the available ring or of the chain in its next slot. The number is a descriptor's, if nothing else is said.
-#[derive(Clone, Copy, Debug, PartialEq, Eq)]
-pub enum RingErr {
-    /// The available index, which is more than the queue's size ahead.
-    IdxJump(u16),
-    /// The head, which isn't below the size.
-    BadHead(u16),
-    /// The descriptor stands for a table of descriptors.
-    Indirect(u16),
-    /// The descriptor is readable and stands after a writable one.
-    Order(u16),
-    /// The descriptor's buffer passes the memory's end.
-    Outside(u16),
-    /// The readable bytes with the descriptor's are more than 1,024.
-    TooLong(u16),
-    /// The descriptor's next isn't below the size.
-    BadNext(u16),
-    /// The descriptor's next stands in the chain already.
-    Loop(u16),
-    /// The descriptor is the 64th, and has a next.
-    TooMany(u16),
-}
 
 /// The chain of a head, or its first fault.
 pub(crate) fn chain_of(mem: &GuestMem, place: Place, head: u16) -> Result<Chain, RingErr>
@@ -44,10 +23,10 @@ pub(crate) fn chain_of(mem: &GuestMem, place: Place, head: u16) -> Result<Chain,
         readable: ArrayVec::new(),
         writable: ArrayVec::new(),
     };
-    let mut visited: ArrayVec<u16, 64> = ArrayVec::new();
+    let mut visited: ArrayVec<u16, MOST_DESCRIPTORS> = ArrayVec::new();
     visited.push(head);
     let mut number = head;
-    for _ in 0..63usize {
+    for _ in 0..MOST_DESCRIPTORS - 1 {
         match add_descriptor(mem, place, &visited, &mut chain, number)? {
             None => return Ok(chain),
             Some(next) => {
@@ -63,18 +42,18 @@ pub(crate) fn chain_of(mem: &GuestMem, place: Place, head: u16) -> Result<Chain,
 }
 
 /// Adds a descriptor to its chain, and gives the number of the one that follows.
-#[tactic(auto, unfolding(crate::specs::Chains::next_of))]
+#[tactic(auto, unfolding(crate::specs::Walks::next_in_chain))]
 fn add_descriptor(
     mem: &GuestMem,
     place: Place,
-    visited: &ArrayVec<u16, 64>,
+    visited: &ArrayVec<u16, MOST_DESCRIPTORS>,
     chain: &mut Chain,
     number: u16,
 ) -> Result<Option<u16>, RingErr>
     requires placed { IsPlaced place (length mem.now) }
     requires number { number < place.size }
-    requires room { length chain.old.writable.items < 64 }
-    ensures answer { result ≡ next_of mem.now place visited.now.items chain.old number }
+    requires room { length chain.old.writable.items < most_descriptors }
+    ensures answer { result ≡ next_in_chain mem.now place visited.now.items chain.old number }
     ensures ok { OnOk result (chain.new ≡ with_buffer mem.now chain.old (descriptor_at mem.now place number)) }
     ensures next { IfOk result (λ next. IfSome next (λ n. n < place.size)) }
 {
@@ -94,7 +73,7 @@ fn add_descriptor(
 }
 
 /// The first fault of a descriptor's buffer.
-#[tactic(auto, unfolding(crate::specs::Chains::buffer_fault))]
+#[tactic(auto, unfolding(crate::specs::Walks::buffer_fault))]
 fn buffer_fault(
     mem: &GuestMem,
     chain: &Chain,
@@ -114,7 +93,7 @@ fn buffer_fault(
     if !lies_in(mem, descriptor.addr, descriptor.len) {
         return Some(RingErr::Outside(number));
     }
-    if readable && chain.readable.as_slice().len() + descriptor.len as usize > 1024 {
+    if readable && chain.readable.as_slice().len() + descriptor.len as usize > MOST_READABLE {
         return Some(RingErr::TooLong(number));
     }
     None
@@ -130,10 +109,10 @@ fn lies_in(mem: &GuestMem, addr: u64, len: u32) -> bool
 }
 
 /// The fault of a descriptor's next field.
-#[tactic(auto, unfolding(crate::specs::Chains::next_fault))]
+#[tactic(auto, unfolding(crate::specs::Walks::next_fault))]
 fn next_fault(
     place: Place,
-    visited: &ArrayVec<u16, 64>,
+    visited: &ArrayVec<u16, MOST_DESCRIPTORS>,
     number: u16,
     descriptor: Descriptor,
 ) -> Option<RingErr>
@@ -155,7 +134,7 @@ fn next_fault(
 /// Adds a buffer without a fault to the chain.
 fn add_buffer(mem: &GuestMem, chain: &mut Chain, descriptor: Descriptor)
     requires fits { BufferFits mem.now chain.old descriptor }
-    requires room { length chain.old.writable.items < 64 }
+    requires room { length chain.old.writable.items < most_descriptors }
     ensures { chain.new ≡ with_buffer mem.now chain.old descriptor }
 {
     if descriptor.is_writable() {
@@ -164,7 +143,7 @@ fn add_buffer(mem: &GuestMem, chain: &mut Chain, descriptor: Descriptor)
             len: descriptor.len,
         });
     } else {
-        let mut buffer = [0; 1024];
+        let mut buffer = [0; MOST_READABLE];
         let bytes = &mut buffer[..descriptor.len as usize];
         mem.read(descriptor.addr, bytes).unwrap();
         chain.readable.try_extend_from_slice(bytes).unwrap();

@@ -1,7 +1,7 @@
 //! The program: its words, real files and standard output, given to the call that does everything.
 //!
-//! Nothing is decided here but what the system's own answers mean: a word that isn't UTF-8 is a faulty command line, and
-//! without memory for the words the program ends as wherever memory runs out.
+//! Nothing is decided here but what the system's own answers mean: a word that isn't UTF-8 is a faulty command line,
+//! and without memory for the words the program ends as wherever memory runs out.
 #![tactic(auto)]
 
 ghost use Rattle.std.specs.Prelude.{◌≡◌, ◌≤◌, ◌⊎◌, IfErr};

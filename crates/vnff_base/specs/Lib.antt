@@ -5,6 +5,7 @@ pub mod Lines
 pub mod MemOuts
 pub mod MemShelves
 pub mod Numbers
+pub mod OpenedFiles
 pub mod Outputs
 pub mod Reads
 pub mod Shelves

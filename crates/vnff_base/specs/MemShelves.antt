@@ -1,7 +1,8 @@
 -- A shelf in memory, as contracts see it.
-use Rattle.std.specs.Prelude.{ℕ, List, Option, option_map}
+use Rattle.std.specs.Prelude.{ℕ, List, Option, Some, option_map}
 use Rattle.std.specs.List.{find}
 use Rattle.std.specs.Str.{bytes_eq}
+use Rattle.vnff_base.specs.Shelves.{ShelfState}
 
 -- a file under its name
 pub record NamedFile : Type 0 where
@@ -20,3 +21,7 @@ pub record MemShelfState : Type 0 where
 -- the bytes of the newest file of a name
 abbrev pub file_named : List NamedFile → List ℕ → Option (List ℕ)
 file_named files name = option_map (λ file. file.bytes) (find (λ file. bytes_eq file.name name) files)
+
+-- as every shelf is seen: it tells its files
+abbrev pub shelf_state : MemShelfState → ShelfState
+shelf_state shelf = record { files = Some (file_named shelf.files); faults = shelf.faults; given = shelf.given }

@@ -6,9 +6,15 @@ use Rattle.vnff_base.specs.Counts.{Rose}
 abbrev pub Files : Type 0
 Files = List ℕ → Option (List ℕ)
 
+-- What contracts see of a shelf: its files, where it tells them, how often it failed, and how many bytes it gave.
+pub record ShelfState : Type 0 where
+  pub files : Option Files
+  pub faults : ℕ
+  pub given : ℕ
+
 -- The shelf tells its files, and the name isn't among them.
-abbrev pub IsMissing : Option Files → List ℕ → Type 0
-IsMissing told name = IsSomeAnd told (λ files. files name ≡ None)
+abbrev pub IsMissing : ShelfState → List ℕ → Type 0
+IsMissing shelf name = IsSomeAnd shelf.files (λ files. files name ≡ None)
 
 -- A read of n bytes at a place of a file left them in the buffer's front; none means the end of the file.
 pub record Fills (file : List ℕ) (place n : ℕ) (buffer : List ℕ) : Type 0 where
@@ -16,9 +22,10 @@ pub record Fills (file : List ℕ) (place n : ℕ) (buffer : List ℕ) : Type 0 
   pub ends : n ≡ 0 → 0 < length buffer → length file ≤ place
 
 -- Where the shelf tells its files, the file of that name is there, and the read was of its bytes.
-abbrev pub ReadsFile : Option Files → List ℕ → ℕ → ℕ → List ℕ → Type 0
-ReadsFile told name place n buffer = IfSome told (λ files. IsSomeAnd (files name) (λ file. Fills file place n buffer))
+abbrev pub ReadsFile : ShelfState → List ℕ → ℕ → ℕ → List ℕ → Type 0
+ReadsFile shelf name place n buffer =
+    IfSome shelf.files (λ files. IsSomeAnd (files name) (λ file. Fills file place n buffer))
 
 -- A read that failed: the count of failures rose, or the name is missing.
-abbrev pub HasCause : ℕ → ℕ → Option Files → List ℕ → Type 0
-HasCause before now told name = Rose before now ⊎ IsMissing told name
+abbrev pub HasCause : ShelfState → ShelfState → List ℕ → Type 0
+HasCause old new name = Rose old.faults new.faults ⊎ IsMissing old name

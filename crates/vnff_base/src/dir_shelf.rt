@@ -1,6 +1,8 @@
 //! The shelf of real files: the edge where proofs end.
 
-ghost use Rattle.std.specs.Prelude.{◌≡◌, ◌≤◌, length, None, IfOk};
+ghost use Rattle.std.specs.Prelude.{◌≡◌, ◌≤◌, ◌↔◌, length, None, IfOk, IsSomeAnd, IsTrue};
+ghost use Rattle.vnff_base.specs.Counts.{count_after};
+ghost use Rattle.vnff_base.specs.OpenedFiles.{IsAt};
 
 use crate::out::Failed;
 use crate::shelf::Shelf;
@@ -9,37 +11,95 @@ use std::rt::Files;
 use std::{fs, io};
 
 /// The files of the system, each under its path. It tells no contract what they hold.
+///
+/// The file that is read stays open, so that piece after piece comes from the file that was opened, whatever else stands
+/// under its path by then, and a pipe is read to its end as well.
 #[derive(Drop)]
-pub struct DirShelf<R> {
+pub struct DirShelf<R: Files> {
     rt: R,
+    reading: Option<OpenedFile<R::File>>,
     faults: u64,
     given: u64,
 }
 
-impl<R: Files> DirShelf<R> {
+/// A file that is read, with its path and the place of its next byte.
+#[derive(Drop)]
+struct OpenedFile<F: Drop> {
+    path: String,
+    file: F,
+    place: u64,
+}
+
+impl<R: Files + AllocGlobal> DirShelf<R> {
     /// The files that the runtime reaches, with no failure yet and no byte given.
     pub fn new(rt: R) -> DirShelf<R>
-        ensures faults { ⟦<DirShelf<R> as Shelf>⟧.faults result ≡ 0 }
-        ensures given { ⟦<DirShelf<R> as Shelf>⟧.given result ≡ 0 }
+        ensures { ⟦<DirShelf<R> as Shelf>⟧.state result ≡ record { files = None; faults = 0; given = 0 } }
     {
         DirShelf {
             rt,
+            reading: None,
             faults: 0,
             given: 0,
         }
     }
+
+    /// Takes the file that is read, where it goes on at that place, or opens the file of that path there. A read from the
+    /// first byte on opens the file anew.
+    fn take_file(&mut self, path: &str, at: u64) -> io::Result<OpenedFile<R::File>>
+        ensures there { IfOk result (λ opened. IsAt path.now at opened) }
+        ensures counts { (self.new.faults ≡ self.old.faults) × (self.new.given ≡ self.old.given) }
+    {
+        match self.reading.take() {
+            Some(opened) if at > 0 && opened.goes_on(path, at) => Ok(opened),
+            _ => open_at(&self.rt, path, at),
+        }
+    }
+
+    /// Reads the piece at a place of a file, and keeps the file for the piece behind it.
+    fn read_piece(&mut self, path: &str, at: u64, buf: &mut [u8]) -> io::Result<usize>
+        ensures fits { IfOk result (λ n. n ≤ length buf.new) }
+        ensures kept { IfOk result (λ n. IsSomeAnd self.new.reading (IsAt path.now (count_after at n))) }
+        ensures counts { (self.new.faults ≡ self.old.faults) × (self.new.given ≡ self.old.given) }
+    {
+        let mut opened = self.take_file(path, at)?;
+        let taken = opened.file.read(buf)?;
+        opened.place = at.saturating_add(taken as u64);
+        self.reading = Some(opened);
+        Ok(taken)
+    }
 }
 
-impl<R: Files> Shelf for DirShelf<R> {
-    ghost files = { λ _. None };
+impl<F: Drop> OpenedFile<F> {
+    /// Whether the byte at a place of the file of that path is the next one.
+    fn goes_on(&self, path: &str, at: u64) -> bool
+        ensures { IsTrue result ↔ IsAt path.now at self.now }
+    {
+        self.place == at && self.path.as_str() == path
+    }
+}
 
-    ghost faults = { λ s. s.faults };
+/// Opens a file at a place. A pipe has its first byte alone as a place.
+fn open_at<R: Files + AllocGlobal>(rt: &R, path: &str, at: u64) -> io::Result<OpenedFile<R::File>>
+    ensures { IfOk result (λ opened. IsAt path.now at opened) }
+{
+    let mut file = fs::open(rt, path)?;
+    if at > 0 {
+        file.seek(SeekFrom::Start(at))?;
+    }
+    Ok(OpenedFile {
+        path: String::from_str(rt.alloc(), path)?,
+        file,
+        place: at,
+    })
+}
 
-    ghost given = { λ s. s.given };
+impl<R: Files + AllocGlobal> Shelf for DirShelf<R> {
+    ghost state = { λ s. record { files = None; faults = s.faults; given = s.given } };
 
-    /// A missing file, a folder and a file that can't be read are each a failed read.
+    /// A missing file, a folder, a file that can't be read, and one whose path there is no memory to keep, are each a
+    /// failed read.
     fn read_at(&mut self, name: &str, at: u64, buf: &mut [u8]) -> Result<usize, Failed> {
-        match read_file(&self.rt, name, at, buf) {
+        match self.read_piece(name, at, buf) {
             Ok(taken) => {
                 self.given = self.given.saturating_add(taken as u64);
                 Ok(taken)
@@ -52,18 +112,12 @@ impl<R: Files> Shelf for DirShelf<R> {
     }
 }
 
-fn read_file<R: Files>(rt: &R, path: &str, at: u64, buf: &mut [u8]) -> io::Result<usize>
-    ensures { IfOk result (λ n. n ≤ length buf.new) }
-{
-    let mut file = fs::open(rt, path)?;
-    file.seek(SeekFrom::Start(at))?;
-    file.read(buf)
-}
-
 #[cfg(test)]
 mod tests {
     use super::*;
     use std::env;
+    use std::io::{Write, pipe};
+    use std::os::fd::AsRawFd;
     use std::test::Fail;
 
     #[test]
@@ -84,6 +138,44 @@ mod tests {
         );
         fs::remove_file(&rt, name)?;
         assert_eq!(rt; shelf.read_at(name, 0, &mut buf), Err(Failed));
+        Ok(())
+    }
+
+    #[test]
+    fn reads_a_pipe_from_its_first_byte(rt: HostRuntime) -> Result<(), Fail> {
+        let (reader, mut writer) = pipe(&rt)?;
+        writer.write_all(b"piped")?;
+        drop(writer);
+        let path = format!(in rt.alloc(); "/proc/self/fd/{}", reader.as_raw_fd())?;
+        let name = path.as_str();
+        let mut shelf = DirShelf::new(rt.clone()?);
+        let mut buf = [0u8; 3];
+        assert_eq!(rt; shelf.read_at(name, 0, &mut buf), Ok(3));
+        assert_eq!(rt; buf.as_slice(), b"pip".as_slice());
+        assert_eq!(rt; shelf.read_at(name, 3, &mut buf), Ok(2));
+        assert_eq!(rt; &buf[..2], b"ed".as_slice());
+        assert_eq!(rt; shelf.read_at(name, 5, &mut buf), Ok(0));
+        assert_eq!(rt; shelf.read_at(name, 4, &mut buf), Err(Failed));
+        Ok(())
+    }
+
+    #[test]
+    fn reads_on_in_the_file_that_was_opened(rt: HostRuntime) -> Result<(), Fail> {
+        let mut path = env::temp_dir(&rt)?;
+        path.push("vnff_base_replaced")?;
+        let name = path.to_string_lossy();
+        let newer = format!(in rt.alloc(); "{name}.new")?;
+        let mut shelf = DirShelf::new(rt.clone()?);
+        let mut buf = [0u8; 3];
+        fs::write(&rt, name, b"older")?;
+        fs::write(&rt, newer.as_str(), b"NEWER")?;
+        assert_eq!(rt; shelf.read_at(name, 0, &mut buf), Ok(3));
+        fs::rename(&rt, newer.as_str(), name)?;
+        assert_eq!(rt; shelf.read_at(name, 3, &mut buf), Ok(2));
+        assert_eq!(rt; &buf[..2], b"er".as_slice());
+        assert_eq!(rt; shelf.read_at(name, 1, &mut buf), Ok(3));
+        assert_eq!(rt; buf.as_slice(), b"EWE".as_slice());
+        fs::remove_file(&rt, name)?;
         Ok(())
     }
 }

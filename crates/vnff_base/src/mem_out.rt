@@ -1,7 +1,8 @@
 //! An output in memory, with room for so many bytes, that fails where it is told to.
 
-ghost use Rattle.std.specs.Prelude.{◌≡◌, ℕ, ◌+◌, ◌<◌, ◌≤◌, List, [], ◌∷◌, ◌++◌, length, Some, IfOk, OnOk, OnErr, IsErr, Contains, ◌↔◌, ◌⊎◌};
+ghost use Rattle.std.specs.Prelude.{◌≡◌, ℕ, ◌+◌, ◌<◌, ◌≤◌, List, [], ◌∷◌, ◌++◌, length, IfOk, OnOk, OnErr, IsErr, Contains, ◌↔◌, ◌⊎◌};
 ghost use Rattle.vnff_base.specs.Counts.{count_after};
+ghost use Rattle.vnff_base.specs.MemOuts.{output_state};
 ghost use Rattle.vnff_base.specs.Outputs.{Writes};
 
 use crate::out::{Failed, Out};
@@ -73,13 +74,11 @@ impl MemOut {
 }
 
 impl Out for MemOut {
-    ghost told = { λ o. Some o.bytes };
-
-    ghost faults = { λ o. o.faults };
+    ghost state = { output_state };
 
     /// Appends the piece, or nothing at all.
     fn put(&mut self, piece: &[u8]) -> Result<(), Failed>
-        ensures writes { Writes (Some self.old.bytes) (Some self.new.bytes) self.old.faults self.new.faults piece.now result }
+        ensures writes { Writes (output_state self.old) (output_state self.new) piece.now result }
         // It fails at the calls named for it and past its room, and at no other.
         ensures fails { IsErr result
             ↔ (Contains self.old.failing self.old.calls ⊎ (self.old.room < length self.old.bytes + length piece.now)) }

@@ -1,8 +1,8 @@
 //! A shelf in memory, that fails where it is told to.
 
-ghost use Rattle.std.specs.Prelude.{◌≡◌, ℕ, ◌+◌, ◌-◌, ◌<◌, ◌≤◌, min, List, [], ◌∷◌, ◌++◌, length, Some, None, option_copied, IfSome, IfOk, OnOk, OnErr, IsErr, MatchResult, Contains, ◌↔◌, ◌⊎◌};
+ghost use Rattle.std.specs.Prelude.{◌≡◌, ℕ, ◌+◌, ◌-◌, ◌<◌, ◌≤◌, min, drop, List, [], ◌∷◌, ◌++◌, length, Some, None, option_copied, IfSome, IfOk, OnOk, OnErr, IsErr, MatchResult, Contains, ◌↔◌, ◌⊎◌};
 ghost use Rattle.vnff_base.specs.Counts.{count_after};
-ghost use Rattle.vnff_base.specs.MemShelves.{file_named};
+ghost use Rattle.vnff_base.specs.MemShelves.{file_named, shelf_state};
 ghost use Rattle.vnff_base.specs.Shelves.{Fills, ReadsFile, HasCause};
 
 use crate::out::Failed;
@@ -87,26 +87,21 @@ impl MemShelf {
 }
 
 impl Shelf for MemShelf {
-    ghost files = { λ s. Some (file_named s.files) };
+    ghost state = { shelf_state };
 
-    ghost faults = { λ s. s.faults };
-
-    ghost given = { λ s. s.given };
-
-    /// Gives as many bytes as the buffer takes and the file has.
+    /// Gives as many bytes as the buffer takes and the file has, and touches no more of the buffer.
     fn read_at(&mut self, name: &str, at: u64, buf: &mut [u8]) -> Result<usize, Failed>
         // What each shelf promises.
         ensures fits { IfOk result (λ n. n ≤ length buf.new) }
-        ensures bytes { IfOk result (λ n. ReadsFile (Some (file_named self.old.files)) name.now at n buf.new) }
+        ensures bytes { IfOk result (λ n. ReadsFile (shelf_state self.old) name.now at n buf.new) }
         ensures given { MatchResult result
             (λ n. self.new.given ≡ count_after self.old.given n)
             (λ _. self.new.given ≡ self.old.given) }
         ensures faults { MatchResult result
             (λ _. self.new.faults ≡ self.old.faults)
             (λ _. self.old.faults ≤ self.new.faults) }
-        ensures cause { OnErr result
-            (HasCause self.old.faults self.new.faults (Some (file_named self.old.files)) name.now) }
-        ensures same_files { file_named self.new.files ≡ file_named self.old.files }
+        ensures cause { OnErr result (HasCause (shelf_state self.old) (shelf_state self.new) name.now) }
+        ensures same_files { Some (file_named self.new.files) ≡ Some (file_named self.old.files) }
 
         // It fails at the calls named for it and where the file isn't there, and at no other call.
         ensures fails { IsErr result
@@ -116,6 +111,9 @@ impl Shelf for MemShelf {
         ensures missed { (Contains self.old.failing self.old.calls → ⊥) → self.new.faults ≡ self.old.faults }
         ensures whole { IfOk result (λ n. IfSome (file_named self.old.files name.now)
             (λ file. n ≡ min (length buf.new) (length file - at))) }
+        // What is behind these bytes in the buffer stays, and all of it after a failure.
+        ensures behind { IfOk result (λ n. drop n buf.new ≡ drop n buf.old) }
+        ensures untouched { OnErr result (buf.new ≡ buf.old) }
         ensures rest { self.new ≡ record self.old {
           calls = count_after self.old.calls 1;
           faults = self.new.faults;
@@ -153,6 +151,7 @@ fn find<'a>(files: &'a [File], name: &[u8]) -> Option<&'a [u8]>
 fn copy_from(file: &[u8], at: u64, buf: &mut [u8]) -> usize
     ensures fills { Fills file.now at result buf.new }
     ensures whole { result ≡ min (length buf.new) (length file.now - at) }
+    ensures behind { drop result buf.new ≡ drop result buf.old }
 {
     let start = at.min(file.len() as u64) as usize;
     let rest = &file[start..];

@@ -13,7 +13,7 @@ const PIECE: usize = 64;
 
 /// Writes the bytes in hexadecimal: two digits a byte, letters in lower case, and `-` for no bytes.
 pub fn hex_put<O: Out>(out: &mut O, bytes: &[u8]) -> Result<(), Failed>
-    ensures { Writes (O.told out.old) (O.told out.new) (O.faults out.old) (O.faults out.new) (hex_text bytes.now) result }
+    ensures { Writes (O.state out.old) (O.state out.new) (hex_text bytes.now) result }
 {
     if bytes.is_empty() {
         return out.put(b"-");
@@ -30,7 +30,7 @@ pub fn hex_put<O: Out>(out: &mut O, bytes: &[u8]) -> Result<(), Failed>
 /// Writes the digits of a few bytes by one put.
 fn put_piece<O: Out>(out: &mut O, piece: &[u8]) -> Result<(), Failed>
     requires { length piece.now ≤ PIECE }
-    ensures { Writes (O.told out.old) (O.told out.new) (O.faults out.old) (O.faults out.new) (flat_map hex_pair piece.now) result }
+    ensures { Writes (O.state out.old) (O.state out.new) (flat_map hex_pair piece.now) result }
 {
     let mut digits = [0u8; 2 * PIECE];
     spell(piece, &mut digits);

@@ -1,33 +1,29 @@
 //! A shelf: a place that files are read from.
 
-ghost use Rattle.std.specs.Prelude.{◌≡◌, ℕ, ◌≤◌, length, Option, IfOk, OnErr, MatchResult};
+ghost use Rattle.std.specs.Prelude.{◌≡◌, ◌≤◌, length, IfOk, OnErr, MatchResult};
 ghost use Rattle.vnff_base.specs.Counts.{count_after};
-ghost use Rattle.vnff_base.specs.Shelves.{Files, ReadsFile, HasCause};
+ghost use Rattle.vnff_base.specs.Shelves.{ShelfState, ReadsFile, HasCause};
 
 use crate::out::Failed;
 
 /// A place that files are read from, each under a name.
 pub trait Shelf {
-    // The files, where the shelf tells them.
-    ghost files: { Self → Option Files };
+    // The files, where the shelf tells them; how often it failed, and how many bytes it gave. Neither count falls, and each
+    // stands still at 2^64 - 1.
+    ghost state: { Self → ShelfState };
 
-    // How often it failed; the count never falls, and stands still at 2^64 - 1.
-    ghost faults: { Self → ℕ };
-
-    // How many bytes it gave; the count stands still at 2^64 - 1.
-    ghost given: { Self → ℕ };
-
-    /// Reads bytes of a file, from the place `at` on, into the front of the buffer, and says how many.
-    /// Of a buffer that isn't empty, none means the end of the file. A name that isn't there is a failure.
+    /// Reads bytes of a file, from the place `at` on, into the front of the buffer, and says how many. Of a buffer that isn't
+    /// empty, none means the end of the file. A name that isn't there is a failure. Nothing is promised of what is behind
+    /// these bytes in the buffer, nor of the buffer after a failure.
     fn read_at(&mut self, name: &str, at: u64, buf: &mut [u8]) -> Result<usize, Failed>
         ensures fits { IfOk result (λ n. n ≤ length buf.new) }
-        ensures bytes { IfOk result (λ n. ReadsFile (files self.old) name.now at n buf.new) }
+        ensures bytes { IfOk result (λ n. ReadsFile (state self.old) name.now at n buf.new) }
         ensures given { MatchResult result
-            (λ n. given self.new ≡ count_after (given self.old) n)
-            (λ _. given self.new ≡ given self.old) }
+            (λ n. (state self.new).given ≡ count_after (state self.old).given n)
+            (λ _. (state self.new).given ≡ (state self.old).given) }
         ensures faults { MatchResult result
-            (λ _. faults self.new ≡ faults self.old)
-            (λ _. faults self.old ≤ faults self.new) }
-        ensures cause { OnErr result (HasCause (faults self.old) (faults self.new) (files self.old) name.now) }
-        ensures same_files { files self.new ≡ files self.old };
+            (λ _. (state self.new).faults ≡ (state self.old).faults)
+            (λ _. (state self.old).faults ≤ (state self.new).faults) }
+        ensures cause { OnErr result (HasCause (state self.old) (state self.new) name.now) }
+        ensures same_files { (state self.new).files ≡ (state self.old).files };
 }

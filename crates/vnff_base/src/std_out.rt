@@ -14,16 +14,14 @@ pub struct StdOut<R> {
 impl<R: Print> StdOut<R> {
     /// Standard output of the runtime, with no failure yet.
     pub fn new(rt: R) -> StdOut<R>
-        ensures { ⟦<StdOut<R> as Out>⟧.faults result ≡ 0 }
+        ensures { ⟦<StdOut<R> as Out>⟧.state result ≡ record { told = None; faults = 0 } }
     {
         StdOut { rt, faults: 0 }
     }
 }
 
 impl<R: Print> Out for StdOut<R> {
-    ghost told = { λ _. None };
-
-    ghost faults = { λ o. o.faults };
+    ghost state = { λ o. record { told = None; faults = o.faults } };
 
     fn put(&mut self, piece: &[u8]) -> Result<(), Failed> {
         match self.rt.write_all(piece) {

@@ -35,19 +35,20 @@ pub fn read_all<S: Shelf>(
     limit: u64,
 ) -> Result<Vec<u8>, ReadErr>
     requires { limit ≤ 67108864 }
-    ensures bytes { IfOk result (λ v. OfFile (S.files shelf.old) name.now (λ file. file ≡ v.items)) }
+    ensures bytes { IfOk result (λ v. OfFile (S.state shelf.old) name.now (λ file. file ≡ v.items)) }
     ensures within { IfOk result (λ v. length v.items ≤ limit) }
     ensures fault { IsErrOf result ReadErr.ReadFault
-        → HasCause (S.faults shelf.old) (S.faults shelf.new) (S.files shelf.old) name.now }
+        → HasCause (S.state shelf.old) (S.state shelf.new) name.now }
     ensures longer { IsErrOf result ReadErr.TooLong
-        → OfFile (S.files shelf.old) name.now (λ file. limit < length file) }
+        → OfFile (S.state shelf.old) name.now (λ file. limit < length file) }
     ensures taken { IsErrOf result ReadErr.TooLong
-        → count_after (S.given shelf.old) (limit + 1) ≤ S.given shelf.new }
+        → count_after (S.state shelf.old).given (limit + 1) ≤ (S.state shelf.new).given }
 
     // Only a read that failed touches the count of failures.
-    ensures same_count { (IsErrOf result ReadErr.ReadFault → ⊥) → S.faults shelf.new ≡ S.faults shelf.old }
-    ensures grew { S.faults shelf.old ≤ S.faults shelf.new }
-    ensures same_files { S.files shelf.new ≡ S.files shelf.old }
+    ensures same_count { (IsErrOf result ReadErr.ReadFault → ⊥)
+        → (S.state shelf.new).faults ≡ (S.state shelf.old).faults }
+    ensures grew { (S.state shelf.old).faults ≤ (S.state shelf.new).faults }
+    ensures same_files { (S.state shelf.new).files ≡ (S.state shelf.old).files }
 {
     let mut piece = new_piece(alloc).map_err(|_| ReadErr::Memory)?;
     let mut bytes = Vec::new(alloc);

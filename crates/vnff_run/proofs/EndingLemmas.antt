@@ -2,9 +2,10 @@
 use Rattle.std.proofs.Common.{◌≡◌, ℕ, List, Option, Some, None, Result, Ok, Err, sym, ap, ◌∙◌, subst, inl, inr, ⊎_elim}
 use Rattle.std.specs.Prelude.{IfSome}
 use Rattle.std.proofs.lemmas.Option.{IfSome_then}
-use Rattle.vnff_base.specs.Shelves.{Files}
+use Rattle.vnff_base.specs.Shelves.{Files, ShelfState}
+use Rattle.vnff_base.specs.Outputs.{OutputState}
 use Rattle.vnff_base.proofs.Writing.{told_after-nil}
-use Rattle.vnff_run.specs.Endings.{ShelfCall, OutCall, ReadStops, ReadsInput, RunsAs, FormStops, FormEnds, WroteFront, IsUntouched, IsDone}
+use Rattle.vnff_run.specs.Endings.{ReadStops, ReadsInput, RunsAs, FormStops, FormEnds, AppendedFront, IsUntouched, IsDone}
 use Rattle.vnff_run.specs.Inputs.{InputFault}
 use Rattle.vnff_run.specs.Outcomes.{Outcome, outcome_with}
 use Rattle.vnff_run.specs.declared.stop.Stop.{Stop}
@@ -12,29 +13,29 @@ use Rattle.vnff_run.specs.declared.stop.Stop.TheVariants as stops
 use Rattle.vnff_run.proofs.InputLemmas.{some_then}
 
 -- nothing is a front of any text
-pub wrote_none : (out : OutCall) (text : List ℕ) → out.new ≡ out.old → WroteFront out text
-wrote_none out text same = (0, same ∙ sym (told_after-nil out.old))
+pub wrote_none : (old new : OutputState) (text : List ℕ) → new.told ≡ old.told → AppendedFront old new text
+wrote_none old new text same = (0, same ∙ sym (told_after-nil old.told))
 
 -- where the input can't be read, nothing else was done
-pub form_stops : {A : Type 0} (shelf : ShelfCall) (out : OutCall) (input : Files → Result A InputFault) (run : A → Outcome) (stop : Stop) → ReadStops shelf input stop → IsUntouched out → FormStops shelf out (λ files. outcome_with run (input files)) stop
-form_stops shelf out input run stops.ReadFault why left =
+pub form_stops : {A : Type 0} (shelf shelf_new : ShelfState) (out out_new : OutputState) (input : Files → Result A InputFault) (run : A → Outcome) (stop : Stop) → ReadStops shelf shelf_new input stop → IsUntouched out out_new → FormStops shelf shelf_new out out_new (λ files. outcome_with run (input files)) stop
+form_stops shelf shelf_new out out_new input run stops.ReadFault why left =
     (left, ⊎_elim inl (λ missing. inr (some_then shelf.files missing (λ files is. ap (outcome_with run) is))) why)
-form_stops shelf out input run (stops.Refused refused) why left =
+form_stops shelf shelf_new out out_new input run (stops.Refused refused) why left =
     (left, IfSome_then shelf.files why.1 (λ files is. ap (outcome_with run) is))
-form_stops shelf out input run stops.WriteFault why left = absurd why
-form_stops shelf out input run stops.Memory why left =
-    (why, left.1, if_told shelf.files (λ files. wrote_none out (outcome_with run (input files)).text left.0)) where
+form_stops shelf shelf_new out out_new input run stops.WriteFault why left = absurd why
+form_stops shelf shelf_new out out_new input run stops.Memory why left =
+    (why, left.1, if_told shelf.files (λ files. wrote_none out out_new (outcome_with run (input files)).text left.0)) where
       if_told : {P : Files → Type 0} (told : Option Files) → ((files : Files) → P files) → IfSome told P
       if_told None all = tt
       if_told (Some files) all = all files
 
 -- an input that was read is done with
-pub form_runs : {A B : Type 0} (shelf : ShelfCall) (out : OutCall) (input : Files → Result A InputFault) (run : A → Outcome) (value : A) (result : Result B Stop) → ReadsInput shelf input (Ok value) → RunsAs out (run value) result → FormEnds shelf out (λ files. outcome_with run (input files)) result
-form_runs shelf out input run value (Ok x) read ran =
-    IfSome_then shelf.files read.1 (λ files is. subst (IsDone out) (sym (ap (outcome_with run) is)) ran)
-form_runs shelf out input run value (Err stops.ReadFault) read ran = absurd ran
-form_runs shelf out input run value (Err (stops.Refused refused)) read ran = absurd ran
-form_runs shelf out input run value (Err stops.WriteFault) read ran =
-    (ran.rose, IfSome_then shelf.files read.1 (λ files is. subst (λ (o : Outcome). WroteFront out o.text) (sym (ap (outcome_with run) is)) ran.told))
-form_runs shelf out input run value (Err stops.Memory) read ran =
-    (read.0, ran.0, IfSome_then shelf.files read.1 (λ files is. subst (λ (o : Outcome). WroteFront out o.text) (sym (ap (outcome_with run) is)) ran.1))
+pub form_runs : {A B : Type 0} (shelf shelf_new : ShelfState) (out out_new : OutputState) (input : Files → Result A InputFault) (run : A → Outcome) (value : A) (result : Result B Stop) → ReadsInput shelf shelf_new input (Ok value) → RunsAs out out_new (run value) result → FormEnds shelf shelf_new out out_new (λ files. outcome_with run (input files)) result
+form_runs shelf shelf_new out out_new input run value (Ok x) read ran =
+    IfSome_then shelf.files read.1 (λ files is. subst (IsDone out out_new) (sym (ap (outcome_with run) is)) ran)
+form_runs shelf shelf_new out out_new input run value (Err stops.ReadFault) read ran = absurd ran
+form_runs shelf shelf_new out out_new input run value (Err (stops.Refused refused)) read ran = absurd ran
+form_runs shelf shelf_new out out_new input run value (Err stops.WriteFault) read ran =
+    (ran.rose, IfSome_then shelf.files read.1 (λ files is. subst (λ (o : Outcome). AppendedFront out out_new o.text) (sym (ap (outcome_with run) is)) ran.told))
+form_runs shelf shelf_new out out_new input run value (Err stops.Memory) read ran =
+    (read.0, ran.0, IfSome_then shelf.files read.1 (λ files is. subst (λ (o : Outcome). AppendedFront out out_new o.text) (sym (ap (outcome_with run) is)) ran.1))

@@ -1,13 +1,13 @@
 -- Reading an input in parts: what stops a part stops the whole, and what the parts give is what the whole gives.
-use Rattle.std.proofs.Common.{◌≡◌, ℕ, List, Option, Some, None, Result, Ok, Err, sym, ap, ◌∙◌, inl, inr, ⊎_elim}
+use Rattle.std.proofs.Common.{◌≡◌, ℕ, List, Option, Some, None, Result, Ok, sym, ap, ◌∙◌, inl, inr, ⊎_elim}
 use Rattle.std.specs.Prelude.{IsSomeAnd}
 use Rattle.std.proofs.lemmas.Option.{IfSome_then}
-use Rattle.vnff_base.specs.Shelves.{Files}
-use Rattle.vnff_run.specs.Endings.{ShelfCall, ReadStops, ReadsInput, script_stop}
+use Rattle.vnff_base.specs.Shelves.{Files, ShelfState}
+use Rattle.vnff_run.specs.Endings.{ReadStops, ReadsInput, script_stop}
 use Rattle.vnff_run.specs.Inputs.{InputFault, bytes_in, script_in, script_or_refusal}
-use Rattle.vnff_run.specs.Readings.{AnswersScript}
+use Rattle.vnff_run.specs.Readings.{IsFaultOf}
 use Rattle.vnff_run.specs.Results.{◌>>=◌}
-use Rattle.vnff_run.specs.Script.{built_script_of}
+use Rattle.vnff_run.specs.Built.{built_script_of}
 use Rattle.vnff_run.specs.declared.script.Script.{Script}
 use Rattle.vnff_run.specs.declared.script.ScriptFault.{ScriptFault}
 use Rattle.vnff_run.specs.declared.script.ScriptFault.TheVariants as faults
@@ -20,23 +20,23 @@ some_then None is then = is
 some_then (Some x) is then = then x is
 
 -- a fault of a first part is the whole's
-pub read_stops : {A B : Type 0} (shelf : ShelfCall) (part : Files → Result A InputFault) (next : Files → A → Result B InputFault) (stop : Stop) → ReadStops shelf part stop → ReadStops shelf (λ files. part files >>= next files) stop
-read_stops shelf part next stops.ReadFault why =
+pub read_stops : {A B : Type 0} (shelf shelf_new : ShelfState) (part : Files → Result A InputFault) (next : Files → A → Result B InputFault) (stop : Stop) → ReadStops shelf shelf_new part stop → ReadStops shelf shelf_new (λ files. part files >>= next files) stop
+read_stops shelf shelf_new part next stops.ReadFault why =
     ⊎_elim inl (λ missing. inr (some_then shelf.files missing (λ files is. ap (λ p. p >>= next files) is))) why
-read_stops shelf part next (stops.Refused input) why =
+read_stops shelf shelf_new part next (stops.Refused input) why =
     (why.0, IfSome_then shelf.files why.1 (λ files is. ap (λ p. p >>= next files) is))
-read_stops shelf part next stops.WriteFault why = why
-read_stops shelf part next stops.Memory why = why
+read_stops shelf shelf_new part next stops.WriteFault why = why
+read_stops shelf shelf_new part next stops.Memory why = why
 
 -- the bytes of a file are a script
-pub script_read : (shelf : ShelfCall) (name bytes text : List ℕ) (script : Script) → ReadsInput shelf (bytes_in kinds.Script name) (Ok bytes) → text ≡ bytes → built_script_of text ≡ Ok script → ReadsInput shelf (script_in name) (Ok script)
+pub script_read : (shelf shelf_new : ShelfState) (name bytes text : List ℕ) (script : Script) → ReadsInput shelf shelf_new (bytes_in kinds.Script name) (Ok bytes) → text ≡ bytes → built_script_of text ≡ Ok script → ReadsInput shelf shelf_new (script_in name) (Ok script)
 unfolding script_in
-script_read shelf name bytes text script read same is =
-    (read.0, IfSome_then shelf.files read.1 (λ files held. ap (λ p. p >>= λ b. script_or_refusal (built_script_of b)) (held ∙ ap Ok (sym same)) ∙ ap script_or_refusal is))
+script_read shelf shelf_new name bytes text script read same is =
+    (read.0, IfSome_then shelf.files read.1 (λ files is_there. ap (λ p. p >>= λ b. script_or_refusal (built_script_of b)) (is_there ∙ ap Ok (sym same)) ∙ ap script_or_refusal is))
 
 -- or they are refused, or memory runs out
-pub script_stops : (shelf : ShelfCall) (name bytes text : List ℕ) (fault : ScriptFault) → ReadsInput shelf (bytes_in kinds.Script name) (Ok bytes) → text ≡ bytes → AnswersScript (built_script_of text) (Err fault) → ReadStops shelf (script_in name) (script_stop fault)
+pub script_stops : (shelf shelf_new : ShelfState) (name bytes text : List ℕ) (fault : ScriptFault) → ReadsInput shelf shelf_new (bytes_in kinds.Script name) (Ok bytes) → text ≡ bytes → IsFaultOf (built_script_of text) fault → ReadStops shelf shelf_new (script_in name) (script_stop fault)
 unfolding script_in
-script_stops shelf name bytes text (faults.Bad line reason) read same is =
-    (read.0, IfSome_then shelf.files read.1 (λ files held. ap (λ p. p >>= λ b. script_or_refusal (built_script_of b)) (held ∙ ap Ok (sym same)) ∙ ap script_or_refusal is))
-script_stops shelf name bytes text faults.Memory read same is = read.0
+script_stops shelf shelf_new name bytes text (faults.Bad line reason) read same is =
+    (read.0, IfSome_then shelf.files read.1 (λ files is_there. ap (λ p. p >>= λ b. script_or_refusal (built_script_of b)) (is_there ∙ ap Ok (sym same)) ∙ ap script_or_refusal is))
+script_stops shelf shelf_new name bytes text faults.Memory read same is = read.0

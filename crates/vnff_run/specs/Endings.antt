@@ -1,9 +1,9 @@
--- What calls did that were to bring about an outcome, or a part of it, where a read or a write may fail and memory may run
--- out. Nothing but a read that fails raises a shelf's count of failures, and nothing but a write that fails an output's.
-use Rattle.std.specs.Prelude.{ℕ, ◌≡◌, List, take, Option, IfSome, IsSomeAnd, Result, Ok, Err, ◌⊎◌}
+-- What calls did that were to bring about an outcome, or a part of it, where a read or a write may fail and memory may
+-- run out. Nothing but a failed read raises a shelf's count of failures, and nothing but a failed write an output's.
+use Rattle.std.specs.Prelude.{ℕ, ◌≡◌, List, take, IfSome, IsSomeAnd, Result, Ok, Err, ◌⊎◌}
 use Rattle.vnff_base.specs.Counts.{Rose}
-use Rattle.vnff_base.specs.Outputs.{told_after, Wrote, Stopped}
-use Rattle.vnff_base.specs.Shelves.{Files}
+use Rattle.vnff_base.specs.Outputs.{OutputState, told_after, Wrote, Stopped}
+use Rattle.vnff_base.specs.Shelves.{Files, ShelfState}
 use Rattle.vnff_run.specs.Inputs.{InputFault, Missing, Refused}
 use Rattle.vnff_run.specs.Outcomes.{Outcome, done_status, refused_status, read_status, write_status, memory_status, fault_outcome, refusal_line}
 use Rattle.vnff_run.specs.declared.script.ScriptFault.{ScriptFault}
@@ -18,111 +18,102 @@ abbrev pub script_stop : ScriptFault → Stop
 script_stop (faults.Bad line reason) = stops.Refused (BadScript line reason)
 script_stop faults.Memory = stops.Memory
 
--- a shelf before and after a call: the files that it tells, and its count of failures
-pub record ShelfCall : Type 0 where
-  pub files : Option Files
-  pub before : ℕ
-  pub now : ℕ
+-- A call left the shelf's count of failures.
+abbrev pub NoReadFailed : ShelfState → ShelfState → Type 0
+NoReadFailed old new = new.faults ≡ old.faults
 
--- the shelf of a call, by its ghost members
-abbrev pub shelf_call : {S : Type 0} → (S → Option Files) → (S → ℕ) → S → S → ShelfCall
-shelf_call files faults old new = record { files = files old; before = faults old; now = faults new }
+-- A call left the output's count of failures.
+abbrev pub NoWriteFailed : OutputState → OutputState → Type 0
+NoWriteFailed old new = new.faults ≡ old.faults
 
--- an output before and after a call: the bytes that it tells, and its count of failures
-pub record OutCall : Type 0 where
-  pub old : Option (List ℕ)
-  pub new : Option (List ℕ)
-  pub before : ℕ
-  pub now : ℕ
+-- A read failed in a call.
+abbrev pub ReadFailed : ShelfState → ShelfState → Type 0
+ReadFailed old new = Rose old.faults new.faults
 
--- the output of a call, by its ghost members
-abbrev pub out_call : {O : Type 0} → (O → Option (List ℕ)) → (O → ℕ) → O → O → OutCall
-out_call told faults old new = record { old = told old; new = told new; before = faults old; now = faults new }
+-- A write failed in a call.
+abbrev pub WriteFailed : OutputState → OutputState → Type 0
+WriteFailed old new = Rose old.faults new.faults
 
--- the call left the shelf's count
-abbrev pub NoReadFailed : ShelfCall → Type 0
-NoReadFailed shelf = shelf.now ≡ shelf.before
+-- The text was appended, where the output tells its bytes.
+abbrev pub Appended : OutputState → OutputState → List ℕ → Type 0
+Appended old new text = new.told ≡ told_after old.told text
 
--- the call left the output's count
-abbrev pub NoWriteFailed : OutCall → Type 0
-NoWriteFailed out = out.now ≡ out.before
+-- A front of the text was appended.
+abbrev pub AppendedFront : OutputState → OutputState → List ℕ → Type 0
+AppendedFront old new text = (n : ℕ) × Appended old new (take n text)
 
--- the call left the output
-abbrev pub IsUntouched : OutCall → Type 0
-IsUntouched out = (out.new ≡ out.old) × NoWriteFailed out
+-- Nothing was appended.
+abbrev pub AppendedNothing : OutputState → OutputState → Type 0
+AppendedNothing old new = new.told ≡ old.told
 
--- the text was appended, and no write failed
-abbrev pub WroteAll : OutCall → List ℕ → Type 0
-WroteAll out text = Wrote out.old out.new out.before out.now text
+-- A call left the output.
+abbrev pub IsUntouched : OutputState → OutputState → Type 0
+IsUntouched old new = AppendedNothing old new × NoWriteFailed old new
 
--- a write failed within the text, of which a front was appended
-abbrev pub StoppedIn : OutCall → List ℕ → Type 0
-StoppedIn out text = Stopped out.old out.new out.before out.now text
-
--- a front of the text was appended
-abbrev pub WroteFront : OutCall → List ℕ → Type 0
-WroteFront out text = (n : ℕ) × (out.new ≡ told_after out.old (take n text))
+-- P holds of the outcome, where the shelf tells its files.
+abbrev pub WhereTold : ShelfState → (Files → Outcome) → (Outcome → Type 0) → Type 0
+WhereTold shelf outcome P = IfSome shelf.files (λ files. P (outcome files))
 
 -- Why reading an input stopped: what is at fault with it, or a failed read, or want of memory.
-abbrev pub ReadStops : {A : Type 0} → ShelfCall → (Files → Result A InputFault) → Stop → Type 0
-ReadStops shelf input stops.ReadFault =
-    Rose shelf.before shelf.now ⊎ IsSomeAnd shelf.files (λ files. input files ≡ Err Missing)
-ReadStops shelf input (stops.Refused refusal) =
-    NoReadFailed shelf × IfSome shelf.files (λ files. input files ≡ Err (Refused refusal))
-ReadStops shelf input stops.WriteFault = ⊥
-ReadStops shelf input stops.Memory = NoReadFailed shelf
+abbrev pub ReadStops : {A : Type 0} → ShelfState → ShelfState → (Files → Result A InputFault) → Stop → Type 0
+ReadStops old new input stops.ReadFault = ReadFailed old new ⊎ IsSomeAnd old.files (λ files. input files ≡ Err Missing)
+ReadStops old new input (stops.Refused refusal) =
+    NoReadFailed old new × IfSome old.files (λ files. input files ≡ Err (Refused refusal))
+ReadStops old new input stops.WriteFault = ⊥
+ReadStops old new input stops.Memory = NoReadFailed old new
 
 -- A call that reads an input gives what the files have, where the shelf tells them, or stops.
-abbrev pub ReadsInput : {A : Type 0} → ShelfCall → (Files → Result A InputFault) → Result A Stop → Type 0
-ReadsInput shelf input (Ok value) = NoReadFailed shelf × IfSome shelf.files (λ files. input files ≡ Ok value)
-ReadsInput shelf input (Err stop) = ReadStops shelf input stop
+abbrev pub ReadsInput : {A : Type 0} → ShelfState → ShelfState → (Files → Result A InputFault) → Result A Stop → Type 0
+ReadsInput old new input (Ok value) = NoReadFailed old new × IfSome old.files (λ files. input files ≡ Ok value)
+ReadsInput old new input (Err stop) = ReadStops old new input stop
 
 -- Why doing what has an outcome stopped, over an input that was read: a failed write, or want of memory.
-abbrev pub RunStops : OutCall → Outcome → Stop → Type 0
-RunStops out outcome stops.WriteFault = StoppedIn out outcome.text
-RunStops out outcome stops.Memory = NoWriteFailed out × WroteFront out outcome.text
-RunStops out outcome _ = ⊥
+abbrev pub RunStops : OutputState → OutputState → Outcome → Stop → Type 0
+RunStops old new outcome stops.WriteFault = Stopped old new outcome.text
+RunStops old new outcome stops.Memory = NoWriteFailed old new × AppendedFront old new outcome.text
+RunStops old new outcome _ = ⊥
 
 -- The outcome is that everything is done, and its text was written.
-abbrev pub IsDone : OutCall → Outcome → Type 0
-IsDone out outcome = (outcome.status ≡ done_status) × WroteAll out outcome.text
+abbrev pub IsDone : OutputState → OutputState → Outcome → Type 0
+IsDone old new outcome = (outcome.status ≡ done_status) × Wrote old new outcome.text
 
 -- A call over an input that was read does what has the outcome, with status 0, or stops within it.
-abbrev pub RunsAs : {A : Type 0} → OutCall → Outcome → Result A Stop → Type 0
-RunsAs out outcome (Ok _) = IsDone out outcome
-RunsAs out outcome (Err stop) = RunStops out outcome stop
+abbrev pub RunsAs : {A : Type 0} → OutputState → OutputState → Outcome → Result A Stop → Type 0
+RunsAs old new outcome (Ok _) = IsDone old new outcome
+RunsAs old new outcome (Err stop) = RunStops old new outcome stop
 
 -- Why a form stopped. What is refused is not yet written.
-abbrev pub FormStops : ShelfCall → OutCall → (Files → Outcome) → Stop → Type 0
-FormStops shelf out outcome stops.ReadFault =
-    IsUntouched out
-    × (Rose shelf.before shelf.now ⊎ IsSomeAnd shelf.files (λ files. outcome files ≡ fault_outcome Missing))
-FormStops shelf out outcome (stops.Refused refusal) =
-    IsUntouched out × IfSome shelf.files (λ files. outcome files ≡ fault_outcome (Refused refusal))
-FormStops shelf out outcome stops.WriteFault =
-    Rose out.before out.now × IfSome shelf.files (λ files. WroteFront out (outcome files).text)
-FormStops shelf out outcome stops.Memory =
-    NoReadFailed shelf × NoWriteFailed out × IfSome shelf.files (λ files. WroteFront out (outcome files).text)
+abbrev pub FormStops : ShelfState → ShelfState → OutputState → OutputState → (Files → Outcome) → Stop → Type 0
+FormStops shelf shelf_new out out_new outcome stops.ReadFault =
+    IsUntouched out out_new
+    × (ReadFailed shelf shelf_new ⊎ IsSomeAnd shelf.files (λ files. outcome files ≡ fault_outcome Missing))
+FormStops shelf shelf_new out out_new outcome (stops.Refused refusal) =
+    IsUntouched out out_new × WhereTold shelf outcome (λ end. end ≡ fault_outcome (Refused refusal))
+FormStops shelf shelf_new out out_new outcome stops.WriteFault =
+    WriteFailed out out_new × WhereTold shelf outcome (λ end. AppendedFront out out_new end.text)
+FormStops shelf shelf_new out out_new outcome stops.Memory =
+    NoReadFailed shelf shelf_new × NoWriteFailed out out_new
+    × WhereTold shelf outcome (λ end. AppendedFront out out_new end.text)
 
 -- A form is carried out with status 0, or stops.
-abbrev pub FormEnds : {A : Type 0} → ShelfCall → OutCall → (Files → Outcome) → Result A Stop → Type 0
-FormEnds shelf out outcome (Ok _) = IfSome shelf.files (λ files. IsDone out (outcome files))
-FormEnds shelf out outcome (Err stop) = FormStops shelf out outcome stop
+abbrev pub FormEnds : {A : Type 0} → ShelfState → ShelfState → OutputState → OutputState → (Files → Outcome) → Result A Stop → Type 0
+FormEnds shelf shelf_new out out_new outcome (Ok _) = WhereTold shelf outcome (λ end. IsDone out out_new end)
+FormEnds shelf shelf_new out out_new outcome (Err stop) = FormStops shelf shelf_new out out_new outcome stop
 
 -- The line of a refusal was written, with its status; or a write failed within it.
-abbrev pub WritesRefusal : OutCall → RefusedInput → ℕ → Type 0
-WritesRefusal out input status =
-    ((status ≡ refused_status) × WroteAll out (refusal_line input))
-    ⊎ ((status ≡ write_status) × StoppedIn out (refusal_line input))
+abbrev pub WritesRefusal : OutputState → OutputState → RefusedInput → ℕ → Type 0
+WritesRefusal old new input status =
+    ((status ≡ refused_status) × Wrote old new (refusal_line input))
+    ⊎ ((status ≡ write_status) × Stopped old new (refusal_line input))
 
 -- The status of a stop. What is refused is written.
-abbrev pub IsStatusOfStop : OutCall → Stop → ℕ → Type 0
-IsStatusOfStop out stops.ReadFault status = (status ≡ read_status) × IsUntouched out
-IsStatusOfStop out (stops.Refused input) status = WritesRefusal out input status
-IsStatusOfStop out stops.WriteFault status = (status ≡ write_status) × IsUntouched out
-IsStatusOfStop out stops.Memory status = (status ≡ memory_status) × IsUntouched out
+abbrev pub IsStatusOfStop : OutputState → OutputState → Stop → ℕ → Type 0
+IsStatusOfStop old new stops.ReadFault status = (status ≡ read_status) × IsUntouched old new
+IsStatusOfStop old new (stops.Refused input) status = WritesRefusal old new input status
+IsStatusOfStop old new stops.WriteFault status = (status ≡ write_status) × IsUntouched old new
+IsStatusOfStop old new stops.Memory status = (status ≡ memory_status) × IsUntouched old new
 
 -- The status of a form that was carried out, or stopped.
-abbrev pub IsStatusOf : {A : Type 0} → OutCall → Result A Stop → ℕ → Type 0
-IsStatusOf out (Ok _) status = (status ≡ done_status) × IsUntouched out
-IsStatusOf out (Err stop) status = IsStatusOfStop out stop status
+abbrev pub IsStatusOf : {A : Type 0} → OutputState → OutputState → Result A Stop → ℕ → Type 0
+IsStatusOf old new (Ok _) status = (status ≡ done_status) × IsUntouched old new
+IsStatusOf old new (Err stop) status = IsStatusOfStop old new stop status

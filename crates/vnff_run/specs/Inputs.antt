@@ -2,7 +2,7 @@
 use Rattle.std.specs.Prelude.{ℕ, List, length, Option, Some, None, Result, Ok, Err, nat_lt, if◌then◌else◌}
 use Rattle.vnff_base.specs.Shelves.{Files}
 use Rattle.vnff_run.specs.Results.{◌>>=◌}
-use Rattle.vnff_run.specs.Script.{built_script_of}
+use Rattle.vnff_run.specs.Built.{built_script_of}
 use Rattle.vnff_run.specs.declared.script.Script.{Script}
 use Rattle.vnff_run.specs.declared.script.Reason.{Reason}
 use Rattle.vnff_run.specs.declared.stop.FileKind.{FileKind}
@@ -20,13 +20,13 @@ pub data InputFault : Type 0 where
   Refused : RefusedInput → InputFault
 
 -- a file's bytes, where it is there and not too long
-abbrev pub within_limit : FileKind → Option (List ℕ) → Result (List ℕ) InputFault
-within_limit kind None = Err Missing
-within_limit kind (Some bytes) = if nat_lt file_limit (length bytes) then Err (Refused (TooLong kind)) else Ok bytes
+abbrev pub bytes_or_fault : FileKind → Option (List ℕ) → Result (List ℕ) InputFault
+bytes_or_fault kind None = Err Missing
+bytes_or_fault kind (Some bytes) = if nat_lt file_limit (length bytes) then Err (Refused (TooLong kind)) else Ok bytes
 
 -- the bytes of the file of that name, which is to be one of this kind
 abbrev pub bytes_in : FileKind → List ℕ → Files → Result (List ℕ) InputFault
-bytes_in kind name files = within_limit kind (files name)
+bytes_in kind name files = bytes_or_fault kind (files name)
 
 -- a script, or the refusal of what isn't one
 abbrev pub script_or_refusal : Result Script (ℕ × Reason) → Result Script InputFault

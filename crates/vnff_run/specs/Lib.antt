@@ -1,3 +1,4 @@
+pub mod Built
 pub mod Endings
 pub mod Forms
 pub mod Inputs

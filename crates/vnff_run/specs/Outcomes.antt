@@ -58,16 +58,16 @@ refusal_words (BadScript line reason) = codes "script " ++ reason_word reason
 unfoldable pub refusal_line : RefusedInput → List ℕ
 refusal_line refusal = codes "refused " ++ (refusal_words refusal ++ line_feed)
 
-abbrev pub silent : ℕ → Outcome
-silent status = record { status = status; text = [] }
+abbrev pub silent_outcome : ℕ → Outcome
+silent_outcome status = record { status = status; text = [] }
 
 -- everything is done, and the text written
-abbrev pub done_with : List ℕ → Outcome
-done_with text = record { status = done_status; text = text }
+abbrev pub done_outcome : List ℕ → Outcome
+done_outcome text = record { status = done_status; text = text }
 
 -- an input is at fault
 abbrev pub fault_outcome : InputFault → Outcome
-fault_outcome Missing = silent read_status
+fault_outcome Missing = silent_outcome read_status
 fault_outcome (Refused refusal) = record { status = refused_status; text = refusal_line refusal }
 
 -- what is done with an input, or the input's fault
@@ -77,11 +77,11 @@ outcome_with run (Err fault) = fault_outcome fault
 
 -- the outcome of a form over files
 unfoldable pub outcome_in : WordForm → Files → Outcome
-outcome_in (Replay script) files = outcome_with (λ s. done_with (replay_text s)) (script_in script files)
+outcome_in (Replay script) files = outcome_with (λ s. done_outcome (replay_text s)) (script_in script files)
 
 -- the outcome of what may be a form
 abbrev pub outcome_by : Option WordForm → Files → Outcome
-outcome_by None files = silent words_status
+outcome_by None files = silent_outcome words_status
 outcome_by (Some form) files = outcome_in form files
 
 -- the outcome for words and files, where no shelf and no output fails but by a file that isn't there

@@ -1,19 +1,28 @@
--- What readers of scripts answer, of which memory may run out.
-use Rattle.std.specs.Prelude.{ℕ, ◌≡◌, Option, Some, None, Result, Ok, Err, ⊤}
-use Rattle.vnff_run.specs.declared.script.Script.{Script}
+-- What readers of scripts answer that find a fault, of which memory may run out, and what they know of line numbers.
+use Rattle.std.specs.Prelude.{ℕ, ◌≡◌, ◌<◌, ◌^◌, All, Result, Err, ⊤}
+use Rattle.vnff_base.specs.Lines.{UnreadLines}
+use Rattle.vnff_run.specs.declared.script.LineFault.{LineFault}
+use Rattle.vnff_run.specs.declared.script.LineFault.TheVariants as line_faults
 use Rattle.vnff_run.specs.declared.script.Reason.{Reason}
-use Rattle.vnff_run.specs.declared.script.Reason.TheVariants.{Unbuilt}
 use Rattle.vnff_run.specs.declared.script.ScriptFault.{ScriptFault}
 use Rattle.vnff_run.specs.declared.script.ScriptFault.TheVariants as faults
 
--- The reader's answer is what the text spells, unless memory ran out.
-abbrev pub AnswersScript : Result Script (ℕ × Reason) → Result Script ScriptFault → Type 0
-AnswersScript spelled (Ok script) = spelled ≡ Ok script
-AnswersScript spelled (Err (faults.Bad line reason)) = spelled ≡ Err (line, reason)
-AnswersScript spelled (Err faults.Memory) = ⊤
+-- The fault is the first one of these lines, unless memory ran out.
+abbrev pub IsFaultOf : {A : Type 0} → Result A (ℕ × Reason) → ScriptFault → Type 0
+IsFaultOf spelled (faults.Bad line reason) = spelled ≡ Err (line, reason)
+IsFaultOf spelled faults.Memory = ⊤
 
--- What a reader answered, seen by a view, is what the words spell, unless memory ran out.
-abbrev pub IsSpelled : {X Y : Type 0} → (X → Y) → Result X ScriptFault → Option Y → Type 0
-IsSpelled view (Ok x) spelled = spelled ≡ Some (view x)
-IsSpelled view (Err (faults.Bad line reason)) spelled = (line ≡ 0) × (reason ≡ Unbuilt) × (spelled ≡ None)
-IsSpelled view (Err faults.Memory) spelled = ⊤
+-- The fault is the first one of this line, unless memory ran out.
+abbrev pub IsLineFaultOf : {A : Type 0} → Result A Reason → LineFault → Type 0
+IsLineFaultOf spelled (line_faults.Bad reason) = spelled ≡ Err reason
+IsLineFaultOf spelled line_faults.Memory = ⊤
+
+-- a line's fault, with the line's number
+abbrev pub fault_at : LineFault → ℕ → ScriptFault
+fault_at (line_faults.Bad reason) line = faults.Bad line reason
+fault_at line_faults.Memory line = faults.Memory
+
+-- The numbers of unread lines have 32 bits, also that of a missing line.
+pub record HasSmallNumbers (unread : UnreadLines) : Type 0 where
+  pub left : All (λ line. line.number < 2 ^ 32) unread.left
+  pub missing : unread.missing < 2 ^ 32

@@ -2,7 +2,7 @@
 
 ghost use Rattle.std.specs.Prelude.{◌≡◌};
 ghost use Rattle.vnff_base.specs.Outputs.{Writes};
-ghost use Rattle.vnff_run.specs.Endings.{IsStatusOf, WritesRefusal, out_call};
+ghost use Rattle.vnff_run.specs.Endings.{IsStatusOf, WritesRefusal};
 ghost use Rattle.vnff_run.specs.Outcomes.{kind_word, reason_word, refusal_line, refusal_words};
 
 use crate::script::Reason;
@@ -29,7 +29,7 @@ pub const NO_MEMORY: u8 = 5;
 
 /// Writes the line of a refusal, where there is one, and gives the exit status.
 pub fn exit_status<O: Out>(ended: Result<(), Stop>, out: &mut O) -> u8
-    ensures { IsStatusOf (out_call O.told O.faults out.old out.new) ended result }
+    ensures { IsStatusOf (O.state out.old) (O.state out.new) ended result }
 {
     match ended {
         Ok(()) => DONE,
@@ -42,7 +42,7 @@ pub fn exit_status<O: Out>(ended: Result<(), Stop>, out: &mut O) -> u8
 
 /// Writes the line of a refusal, and gives the exit status.
 fn refuse<O: Out>(input: RefusedInput, out: &mut O) -> u8
-    ensures { WritesRefusal (out_call O.told O.faults out.old out.new) input result }
+    ensures { WritesRefusal (O.state out.old) (O.state out.new) input result }
 {
     match put_refusal(out, input) {
         Ok(()) => REFUSED,
@@ -53,8 +53,7 @@ fn refuse<O: Out>(input: RefusedInput, out: &mut O) -> u8
 /// Writes the line of a refusal.
 #[tactic(auto, unfolding(crate::specs::Outcomes::refusal_line))]
 fn put_refusal<O: Out>(out: &mut O, input: RefusedInput) -> Result<(), Failed>
-    ensures { Writes (O.told out.old) (O.told out.new) (O.faults out.old) (O.faults out.new)
-        (refusal_line input) result }
+    ensures { Writes (O.state out.old) (O.state out.new) (refusal_line input) result }
 {
     out.put(b"refused ")?;
     put_refusal_words(out, input)?;
@@ -64,8 +63,7 @@ fn put_refusal<O: Out>(out: &mut O, input: RefusedInput) -> Result<(), Failed>
 /// Writes what is refused, and why.
 #[tactic(auto, unfolding(crate::specs::Outcomes::refusal_words))]
 fn put_refusal_words<O: Out>(out: &mut O, input: RefusedInput) -> Result<(), Failed>
-    ensures { Writes (O.told out.old) (O.told out.new) (O.faults out.old) (O.faults out.new)
-        (refusal_words input) result }
+    ensures { Writes (O.state out.old) (O.state out.new) (refusal_words input) result }
 {
     match input {
         RefusedInput::TooLong(kind) => {

@@ -1,10 +1,10 @@
 //! Files, read from a shelf to their ends, and what they hold.
 
 ghost use Rattle.std.specs.Prelude.{◌≡◌, ◌≤◌, length, IfOk};
-ghost use Rattle.vnff_run.specs.Endings.{ReadsInput, shelf_call};
+ghost use Rattle.vnff_run.specs.Endings.{ReadsInput};
 ghost use Rattle.vnff_run.specs.Inputs.{bytes_in, file_limit, script_in};
 
-use crate::grammar::read_script;
+use crate::built::read_script;
 use crate::script::Script;
 use crate::stop::{FileKind, RefusedInput, Stop};
 use std::alloc::Global;
@@ -20,9 +20,9 @@ fn bytes_in<S: Shelf>(
     name: &str,
     shelf: &mut S,
 ) -> Result<List<u8>, Stop>
-    ensures read { ReadsInput (shelf_call S.files S.faults shelf.old shelf.new) (bytes_in kind name.now) result }
+    ensures read { ReadsInput (S.state shelf.old) (S.state shelf.new) (bytes_in kind name.now) result }
     ensures within { IfOk result (λ bytes. length bytes ≤ file_limit) }
-    ensures same_files { S.files shelf.new ≡ S.files shelf.old }
+    ensures same_files { (S.state shelf.new).files ≡ (S.state shelf.old).files }
 {
     match read_all(alloc, shelf, name, FILE_LIMIT) {
         Ok(bytes) => Ok(List::from(bytes)),
@@ -34,8 +34,8 @@ fn bytes_in<S: Shelf>(
 
 /// The script in a file.
 pub fn script_in<S: Shelf>(alloc: Global, name: &str, shelf: &mut S) -> Result<Script, Stop>
-    ensures read { ReadsInput (shelf_call S.files S.faults shelf.old shelf.new) (script_in name.now) result }
-    ensures same_files { S.files shelf.new ≡ S.files shelf.old }
+    ensures read { ReadsInput (S.state shelf.old) (S.state shelf.new) (script_in name.now) result }
+    ensures same_files { (S.state shelf.new).files ≡ (S.state shelf.old).files }
 {
     let bytes = bytes_in(alloc, FileKind::Script, name, shelf)?;
     Ok(read_script(alloc, bytes.as_slice())?)

@@ -1,104 +1,204 @@
-//! Scripts, read from their text.
+//! Scripts, read from their text: line by line, and each line's words from left to right, each once.
 
-ghost use Rattle.std.specs.Prelude.{◌≡◌, ◌<◌, ◌≤◌, ◌==◌, ℕ, List, [], length, slice_index_or};
-ghost use Rattle.std.specs.Prelude.{not, None, IfSome, MatchOption};
-ghost use Rattle.std.specs.List.{list_all, list_any};
-ghost use Rattle.std.specs.Str.{bytes_eq};
-ghost use Rattle.ff_headers.specs.Kinds.{kind_code};
-ghost use Rattle.vnff_base.specs.Lines.{words_of, word_lines};
-ghost use Rattle.vnff_run.specs.Readings.{AnswersScript, IsSpelled};
+ghost use Rattle.std.specs.Prelude.{◌≡◌, ◌<◌, ◌≤◌, ◌^◌, ◌∷◌, [], length, IfOk, IfSome, MatchOption, MatchResult};
+ghost use Rattle.vnff_base.specs.Lines.{words_of};
 ghost use Rattle.vnff_run.specs.Inputs.{file_limit};
-ghost use Rattle.vnff_run.specs.Script.{admin_of, built_script_of, bytes_within, caps_of, device_of};
-ghost use Rattle.vnff_run.specs.Script.{frame_of, is_built, is_built_command, is_built_opcode, is_version};
-ghost use Rattle.vnff_run.specs.Script.{item_of, items_of, number_within, script_behind, script_of};
-ghost use Rattle.vnff_run.specs.Script.{script_of_lines, selects_further};
+ghost use Rattle.vnff_run.specs.Readings.{HasSmallNumbers, IsFaultOf, IsLineFaultOf};
+ghost use Rattle.vnff_run.specs.Script.{admin_of, after_version, at_line, bytes_within, caps_of, device_in};
+ghost use Rattle.vnff_run.specs.Script.{device_number, device_of, frame_of, is_version, item_of, items_of};
+ghost use Rattle.vnff_run.specs.Script.{number_within, script_of, start_of};
 
-use crate::script::{AdminLine, Item, Reason, Script, ScriptFault};
+use crate::script::{AdminLine, DeviceLine, Item, LineFault, Reason, Script, ScriptFault};
 use admin_dev::Start;
-use admin_wire::{
-    Command, ObjData, RawList, VIRTIO_ADMIN_CMD_RESOURCE_OBJ_CREATE, WireErr, opcode_of,
-    read_command,
-};
-use cap_table::{DeviceCaps, has_opcode};
-use ff_headers::{Limits, Selector};
+use cap_table::DeviceCaps;
+use ff_headers::Limits;
 use std::alloc::Global;
 use vnff_base::hex::{HexErr, hex_read};
-use vnff_base::text::{LineReader, word_at, word_count};
+use vnff_base::text::{Line, LineReader, first_word};
 use vnff_base::{List, num_read};
 
-/// The one reason for which a text is refused, whatever its fault.
-const UNBUILT: ScriptFault = ScriptFault::Bad(0, Reason::Unbuilt);
-
-/// The script that the bytes spell, at most 67,108,864 of them. `Bad(0, Unbuilt)` comes exactly where they spell none that
-/// the program can run.
-pub fn read_script(alloc: Global, bytes: &[u8]) -> Result<Script, ScriptFault>
-    requires { length bytes.now ≤ file_limit }
-    ensures { AnswersScript (built_script_of bytes.now) result }
+/// The script of a text, or its first fault.
+#[tactic(auto, unfolding(crate::specs::Script::script_of_lines), using(crate::proofs::GrammarLemmas::small_lines))]
+pub fn script_of(alloc: Global, text: &[u8]) -> Result<Script, ScriptFault>
+    requires { length text.now ≤ file_limit }
+    ensures { MatchResult result (λ script. script_of text.now ≡ Ok script) (IsFaultOf (script_of text.now)) }
 {
-    let script = spelled_script(alloc, bytes)?;
-    if !are_built(script.items.as_slice()) {
-        return Err(UNBUILT);
+    let mut reader = LineReader::new(text);
+    read_version(&mut reader)?;
+    let DeviceLine { caps, start } = read_device(&mut reader)?;
+    let items = read_items(alloc, &mut reader)?;
+    Ok(Script { caps, start, items })
+}
+
+/// Reads the version's line.
+#[tactic(auto, unfolding(crate::specs::Script::after_version), using(crate::proofs::GrammarLemmas::small_numbers))]
+fn read_version(reader: &mut LineReader) -> Result<(), ScriptFault>
+    requires { HasSmallNumbers reader.old }
+    ensures read { let spelled = after_version reader.old.missing reader.old.left in
+        MatchResult result (λ _. spelled ≡ Ok reader.new.left) (IsFaultOf spelled) }
+    ensures missing { reader.new.missing ≡ reader.old.missing }
+    ensures small { HasSmallNumbers reader.new }
+{
+    let Some(line) = reader.next_line() else {
+        return Err(Reason::Unbuilt.at(reader.missing()));
+    };
+    if !is_version(line.text) {
+        return Err(Reason::Unbuilt.at(line.number));
     }
-    Ok(script)
+    Ok(())
 }
 
-/// The script that the bytes spell.
-fn spelled_script(alloc: Global, bytes: &[u8]) -> Result<Script, ScriptFault>
-    ensures { IsSpelled (λ script. script) result (script_of bytes.now) }
+/// Reads the device's line.
+#[tactic(auto, unfolding(crate::specs::Script::device_in), using(crate::proofs::GrammarLemmas::small_numbers))]
+fn read_device(reader: &mut LineReader) -> Result<DeviceLine, ScriptFault>
+    requires { HasSmallNumbers reader.old }
+    ensures read { let spelled = device_in reader.old.missing reader.old.left in
+        MatchResult result (λ device. spelled ≡ Ok (device, reader.new.left)) (IsFaultOf spelled) }
+    ensures small { HasSmallNumbers reader.new }
 {
-    let mut reader = LineReader::new(bytes);
-    let Some(caps) = head_of(&mut reader) else {
-        return Err(UNBUILT);
+    let Some(line) = reader.next_line() else {
+        return Err(Reason::Unbuilt.at(reader.missing()));
     };
-    let items = items_of(alloc, &mut reader)?;
-    Ok(Script {
-        caps,
-        start: Start::Ready,
-        items,
-    })
+    device_of(line.text).map_err(|reason| reason.at(line.number))
 }
 
-/// The device that the first two lines name. The lines behind them are left.
-fn head_of(reader: &mut LineReader) -> Option<DeviceCaps>
-    ensures { MatchOption result (script_of_lines reader.old.left ≡ None)
-        (λ caps. script_of_lines reader.old.left ≡ script_behind caps (items_of reader.new.left)) }
+/// Reads the lines of items, which are all that are left.
+#[tactic(auto, using(crate::proofs::GrammarLemmas::item_steps))]
+fn read_items(alloc: Global, reader: &mut LineReader) -> Result<List<Item>, ScriptFault>
+    requires { HasSmallNumbers reader.old }
+    ensures { MatchResult result (λ items. items_of reader.old.left ≡ Ok items)
+        (IsFaultOf (items_of reader.old.left)) }
 {
-    let Some(version) = reader.next_line() else {
-        return None;
-    };
-    let Some(device) = reader.next_line() else {
-        return None;
-    };
-    if !is_version(version.text) {
-        return None;
+    let mut items = List::new(alloc);
+    while let Some(line) = reader.next_line() {
+        let item = read_item(alloc, line)?;
+        items.push(item)?;
     }
-    device_of(device.text)
+    Ok(items)
 }
 
-/// The word of a line at a place.
-fn word(line: &[u8], place: usize) -> &[u8]
-    requires { place < length (words_of line.now) }
-    ensures { result.now ≡ slice_index_or (words_of line.now) place [] }
+/// Reads the line of an item.
+fn read_item(alloc: Global, line: Line<'_>) -> Result<Item, ScriptFault>
+    requires { line.number < 2 ^ 32 }
+    ensures { let spelled = at_line line.entry.number (item_of (words_of line.entry.text.now)) in
+        MatchResult result (λ item. spelled ≡ Ok item) (IsFaultOf spelled) }
 {
-    word_at(line, place).unwrap()
-}
-
-/// Whether the word of a line at a place is this text.
-fn is_word(line: &[u8], place: usize, text: &[u8]) -> bool
-    requires { place < length (words_of line.now) }
-    ensures { result ≡ bytes_eq (slice_index_or (words_of line.now) place []) text.now }
-{
-    word(line, place) == text
+    item_of(alloc, line.text).map_err(|fault| fault.at(line.number))
 }
 
 /// Whether the line is `vnff 1`.
+#[tactic(auto, unfolding(crate::specs::Script::is_version))]
 fn is_version(line: &[u8]) -> bool
     ensures { result ≡ is_version (words_of line.now) }
 {
-    if word_count(line) != 2 {
-        return false;
+    match two_words(line) {
+        Some((name, version)) => name == b"vnff".as_slice() && version == b"1".as_slice(),
+        None => false,
     }
-    is_word(line, 0, b"vnff") && is_word(line, 1, b"1")
+}
+
+/// The device of a line `device PAIRS GROUPS CLASSIFIERS RULES PERGROUP LAST SELECTORS START`.
+#[tactic(auto, unfolding(crate::specs::Script::device_of))]
+fn device_of(line: &[u8]) -> Result<DeviceLine, Reason>
+    ensures { result ≡ device_of (words_of line.now) }
+{
+    let Some(words) = device_words(line) else {
+        return Err(Reason::Unbuilt);
+    };
+    if words.name != b"device".as_slice() {
+        return Err(Reason::Unbuilt);
+    }
+    let start = start_of(words.start)?;
+    let caps = caps_of(&words)?;
+    Ok(DeviceLine { caps, start })
+}
+
+/// The words of a device's line.
+#[derive(Clone, Copy)]
+struct DeviceWords<'a> {
+    name: &'a [u8],
+    pairs: &'a [u8],
+    groups: &'a [u8],
+    classifiers: &'a [u8],
+    rules: &'a [u8],
+    per_group: &'a [u8],
+    last_priority: &'a [u8],
+    selectors: &'a [u8],
+    start: &'a [u8],
+}
+
+/// The words of a line that has as many as a device's.
+fn device_words(line: &[u8]) -> Option<DeviceWords<'_>>
+    ensures { MatchOption result (length (words_of line.now) ≡ 9 → ⊥)
+        (λ w. words_of line.now ≡ w.name.now ∷ w.pairs.now ∷ w.groups.now ∷ w.classifiers.now ∷ w.rules.now
+        ∷ w.per_group.now ∷ w.last_priority.now ∷ w.selectors.now ∷ w.start.now ∷ []) }
+{
+    let (name, rest) = first_word(line)?;
+    let (pairs, rest) = first_word(rest)?;
+    let (groups, rest) = first_word(rest)?;
+    let (classifiers, rest) = first_word(rest)?;
+    let (rules, rest) = first_word(rest)?;
+    let (per_group, rest) = first_word(rest)?;
+    let (last_priority, rest) = first_word(rest)?;
+    let (selectors, start) = two_words(rest)?;
+    Some(DeviceWords {
+        name,
+        pairs,
+        groups,
+        classifiers,
+        rules,
+        per_group,
+        last_priority,
+        selectors,
+        start,
+    })
+}
+
+/// How a word says that a device starts.
+#[tactic(auto, unfolding(crate::specs::Script::start_of))]
+fn start_of(word: &[u8]) -> Result<Start, Reason>
+    ensures { result ≡ start_of word.now }
+{
+    if word == b"ready".as_slice() {
+        Ok(Start::Ready)
+    } else {
+        Err(Reason::Unbuilt)
+    }
+}
+
+/// The capabilities that a device's line spells.
+#[tactic(auto, unfolding(crate::specs::Script::caps_of))]
+fn caps_of(words: &DeviceWords<'_>) -> Result<DeviceCaps, Reason>
+    ensures { let w = words.now in
+        result ≡ caps_of w.pairs.now w.groups.now w.classifiers.now w.rules.now w.per_group.now
+        w.last_priority.now w.selectors.now }
+{
+    let pairs = device_number(1, 16, words.pairs)?;
+    let groups = device_number(0, 16, words.groups)?;
+    let classifiers = device_number(0, 64, words.classifiers)?;
+    let rules = device_number(0, 1024, words.rules)?;
+    let per_group = device_number(0, 1024, words.per_group)?;
+    let last_priority = device_number(0, 255, words.last_priority)?;
+    let selectors = device_number(0, 3, words.selectors)?;
+    let limits = Limits {
+        groups: groups as u32,
+        classifiers: classifiers as u32,
+        rules: rules as u32,
+        per_group: per_group as u32,
+        last_priority: last_priority as u8,
+        selectors: selectors as u8,
+    };
+    Ok(DeviceCaps::with_all_selectors(pairs as u8, limits))
+}
+
+/// A number of a device's line.
+#[tactic(auto, unfolding(crate::specs::Script::device_number))]
+fn device_number(low: u64, high: u64, word: &[u8]) -> Result<u64, Reason>
+    ensures value { result ≡ device_number low high word.now }
+    ensures least { IfOk result (λ number. low ≤ number) }
+    ensures most { IfOk result (λ number. number ≤ high) }
+{
+    number_within(low, high, word).ok_or(Reason::Unbuilt)
 }
 
 /// The number that a word spells, within a range.
@@ -115,202 +215,85 @@ fn number_within(low: u64, high: u64, word: &[u8]) -> Option<u64>
     Some(number)
 }
 
-/// The device of a line `device PAIRS GROUPS CLASSIFIERS RULES PERGROUP LAST SELECTORS ready`.
-fn device_of(line: &[u8]) -> Option<DeviceCaps>
-    ensures { result ≡ device_of (words_of line.now) }
+/// The item of a line.
+#[tactic(auto, unfolding(crate::specs::Script::item_of))]
+fn item_of(alloc: Global, line: &[u8]) -> Result<Item, LineFault>
+    ensures { MatchResult result (λ item. item_of (words_of line.now) ≡ Ok item)
+        (IsLineFaultOf (item_of (words_of line.now))) }
 {
-    if word_count(line) != 9 {
-        return None;
-    }
-    if is_word(line, 0, b"device") && is_word(line, 8, b"ready") {
-        caps_of(line)
-    } else {
-        None
-    }
-}
-
-/// The capabilities that the second to eighth word of a line spell.
-#[tactic(auto, unfolding(crate::specs::Script::caps_of))]
-fn caps_of(line: &[u8]) -> Option<DeviceCaps>
-    requires { length (words_of line.now) ≡ 9 }
-    ensures { let word : ℕ → List ℕ = λ place. slice_index_or (words_of line.now) place [] in
-        result ≡ caps_of (word 1) (word 2) (word 3) (word 4) (word 5) (word 6) (word 7) }
-{
-    let pairs = number_within(1, 16, word(line, 1))?;
-    let groups = number_within(0, 16, word(line, 2))?;
-    let classifiers = number_within(0, 64, word(line, 3))?;
-    let rules = number_within(0, 1024, word(line, 4))?;
-    let per_group = number_within(0, 1024, word(line, 5))?;
-    let last_priority = number_within(0, 255, word(line, 6))?;
-    let selectors = number_within(0, 3, word(line, 7))?;
-    let limits = Limits {
-        groups: groups as u32,
-        classifiers: classifiers as u32,
-        rules: rules as u32,
-        per_group: per_group as u32,
-        last_priority: last_priority as u8,
-        selectors: selectors as u8,
+    let Some((name, words)) = first_word(line) else {
+        return Err(LineFault::Bad(Reason::Unbuilt));
     };
-    Some(DeviceCaps::with_all_selectors(pairs as u8, limits))
+    if name == b"admin".as_slice() {
+        admin_of(alloc, words)
+    } else if name == b"frame".as_slice() {
+        frame_of(alloc, words)
+    } else {
+        Err(LineFault::Bad(Reason::Unbuilt))
+    }
 }
 
-/// The bytes that a word spells, of a number within a range.
+/// The command of a line `admin HEX ROOM`, behind its first word.
+#[tactic(auto, unfolding(crate::specs::Script::admin_of))]
+fn admin_of(alloc: Global, line: &[u8]) -> Result<Item, LineFault>
+    ensures { MatchResult result (λ item. admin_of (words_of line.now) ≡ Ok item)
+        (IsLineFaultOf (admin_of (words_of line.now))) }
+{
+    let Some((hex, room)) = two_words(line) else {
+        return Err(LineFault::Bad(Reason::Unbuilt));
+    };
+    let bytes = bytes_within(alloc, 1, 1024, hex)?;
+    let room = number_within(0, 4096, room).ok_or(Reason::Unbuilt)? as u32;
+    Ok(Item::Admin(AdminLine { bytes, room }))
+}
+
+/// The frame of a line `frame HEX`, behind its first word.
+#[tactic(auto, unfolding(crate::specs::Script::frame_of))]
+fn frame_of(alloc: Global, line: &[u8]) -> Result<Item, LineFault>
+    ensures { MatchResult result (λ item. frame_of (words_of line.now) ≡ Ok item)
+        (IsLineFaultOf (frame_of (words_of line.now))) }
+{
+    let Some(hex) = one_word(line) else {
+        return Err(LineFault::Bad(Reason::Unbuilt));
+    };
+    Ok(Item::Frame(bytes_within(alloc, 0, 262_144, hex)?))
+}
+
+/// The bytes that a word spells in hexadecimal, so many at least and at most.
 #[tactic(auto, unfolding(crate::specs::Script::bytes_within))]
-fn bytes_within(
-    alloc: Global,
-    low: usize,
-    high: usize,
-    word: &[u8],
-) -> Result<List<u8>, ScriptFault>
-    ensures { IsSpelled (λ bytes. bytes) result (bytes_within low high word.now) }
+fn bytes_within(alloc: Global, low: usize, high: usize, word: &[u8]) -> Result<List<u8>, LineFault>
+    ensures { MatchResult result (λ bytes. bytes_within low high word.now ≡ Ok bytes)
+        (IsLineFaultOf (bytes_within low high word.now)) }
 {
     let bytes = match hex_read(alloc, word) {
         Ok(bytes) => bytes,
-        Err(HexErr::NotHex) => return Err(UNBUILT),
-        Err(HexErr::Memory) => return Err(ScriptFault::Memory),
+        Err(HexErr::NotHex) => return Err(LineFault::Bad(Reason::Unbuilt)),
+        Err(HexErr::Memory) => return Err(LineFault::Memory),
     };
     if bytes.len() < low || high < bytes.len() {
-        return Err(UNBUILT);
+        return Err(LineFault::Bad(Reason::Unbuilt));
     }
     Ok(List::from(bytes))
 }
 
-/// The command of a line `admin HEX ROOM`.
-#[tactic(auto, unfolding(crate::specs::Script::admin_of))]
-fn admin_of(alloc: Global, hex: &[u8], room: &[u8]) -> Result<Item, ScriptFault>
-    ensures { IsSpelled (λ item. item) result (admin_of hex.now room.now) }
+/// The word of a line that has one.
+fn one_word(line: &[u8]) -> Option<&[u8]>
+    ensures { MatchOption result (length (words_of line.now) ≡ 1 → ⊥)
+        (λ word. words_of line.now ≡ word.now ∷ []) }
 {
-    let bytes = bytes_within(alloc, 1, 1024, hex)?;
-    let room = number_within(0, 4096, room).ok_or(UNBUILT)? as u32;
-    Ok(Item::Admin(AdminLine { bytes, room }))
-}
-
-/// The frame of a line `frame HEX`.
-#[tactic(auto, unfolding(crate::specs::Script::frame_of))]
-fn frame_of(alloc: Global, hex: &[u8]) -> Result<Item, ScriptFault>
-    ensures { IsSpelled (λ item. item) result (frame_of hex.now) }
-{
-    Ok(Item::Frame(bytes_within(alloc, 0, 262_144, hex)?))
-}
-
-/// The item of a line.
-fn item_of(alloc: Global, line: &[u8]) -> Result<Item, ScriptFault>
-    ensures { IsSpelled (λ item. item) result (item_of (words_of line.now)) }
-{
-    match word_count(line) {
-        2 => frame_item(alloc, line),
-        3 => admin_item(alloc, line),
-        _ => Err(UNBUILT),
+    let (word, rest) = first_word(line)?;
+    match first_word(rest) {
+        Some(_) => None,
+        None => Some(word),
     }
 }
 
-/// The item of a line of two words.
-fn frame_item(alloc: Global, line: &[u8]) -> Result<Item, ScriptFault>
-    requires { length (words_of line.now) ≡ 2 }
-    ensures { IsSpelled (λ item. item) result (item_of (words_of line.now)) }
+/// The words of a line that has two.
+fn two_words(line: &[u8]) -> Option<(&[u8], &[u8])>
+    ensures { MatchOption result (length (words_of line.now) ≡ 2 → ⊥)
+        (λ words. words_of line.now ≡ words.0.now ∷ words.1.now ∷ []) }
 {
-    if is_word(line, 0, b"frame") {
-        frame_of(alloc, word(line, 1))
-    } else {
-        Err(UNBUILT)
-    }
-}
-
-/// The item of a line of three words.
-fn admin_item(alloc: Global, line: &[u8]) -> Result<Item, ScriptFault>
-    requires { length (words_of line.now) ≡ 3 }
-    ensures { IsSpelled (λ item. item) result (item_of (words_of line.now)) }
-{
-    if is_word(line, 0, b"admin") {
-        admin_of(alloc, word(line, 1), word(line, 2))
-    } else {
-        Err(UNBUILT)
-    }
-}
-
-/// The items of the lines that are left.
-fn items_of(alloc: Global, reader: &mut LineReader) -> Result<List<Item>, ScriptFault>
-    ensures { IsSpelled (λ items. items) result (items_of reader.old.left) }
-{
-    let mut items = List::new(alloc);
-    while let Some(line) = reader.next_line() {
-        let item = item_of(alloc, line.text)?;
-        items.push(item)?;
-    }
-    Ok(items)
-}
-
-/// Whether the program can do what all items ask for.
-fn are_built(items: &[Item]) -> bool
-    ensures { result ≡ list_all is_built items.now }
-{
-    items.iter().all(|item| is_built(item))
-}
-
-/// Whether the program can do what the item asks for.
-fn is_built(item: &Item) -> bool
-    ensures { result ≡ is_built item.now }
-{
-    match item {
-        Item::Admin(line) => is_built_command(line.bytes.as_slice()),
-        Item::Frame(_) => true,
-    }
-}
-
-/// Whether the program can carry the command out.
-#[tactic(auto, unfolding(crate::specs::Script::is_built_command))]
-fn is_built_command(bytes: &[u8]) -> bool
-    ensures { result ≡ is_built_command bytes.now }
-{
-    is_built_opcode(opcode_of(bytes)) && !selects_further(&read_command(bytes))
-}
-
-/// Whether the opcode is a create's, or one that the device hasn't, or none.
-fn is_built_opcode(opcode: Option<u16>) -> bool
-    ensures { result ≡ is_built_opcode opcode }
-{
-    match opcode {
-        None => true,
-        Some(opcode) => opcode == VIRTIO_ADMIN_CMD_RESOURCE_OBJ_CREATE || !has_opcode(opcode),
-    }
-}
-
-/// Whether the command creates a classifier of another header than Ethernet's.
-fn selects_further(command: &Result<Command, WireErr>) -> bool
-    ensures { result ≡ selects_further command.now }
-{
-    match command {
-        Ok(Command::Create(_, ObjData::Classifier(RawList::Good(list)))) => has_further(
-            list.as_slice(),
-        ),
-        _ => false,
-    }
-}
-
-/// Whether a selector is of another header than Ethernet's.
-fn has_further(selectors: &[Selector]) -> bool
-    ensures { result ≡ list_any (λ selector. not (kind_code selector.kind == 1)) selectors.now }
-{
-    selectors.iter().any(|selector| is_further(selector))
-}
-
-fn is_further(selector: &Selector) -> bool
-    ensures { result ≡ not (kind_code selector.now.kind == 1) }
-{
-    selector.kind().code() != 1
-}
-
-#[cfg(test)]
-mod tests {
-    use super::*;
-    use std::test::Fail;
-
-    #[test]
-    fn reads_a_script(rt: HostRuntime) -> Result<(), Fail> {
-        let text = b"vnff 1\ndevice 4 2 4 8 8 15 3 ready\nadmin 0a 8\nframe -\n";
-        let script = read_script(rt.alloc(), text)?;
-        assert_eq!(rt; script.caps.pairs(), 4);
-        assert_eq!(rt; script.items.len(), 2);
-        Ok(())
-    }
+    let (first, rest) = first_word(line)?;
+    let second = one_word(rest)?;
+    Some((first, second))
 }

@@ -1,20 +1,26 @@
 //! Scripts, what they print, and the program's call.
 //!
-//! [`plain`] is the call that the program makes. It reads the files that its words name from any shelf, gives a script's
-//! commands to a device and each committed change to the tables that are searched, finds the action of each frame in them, and
-//! writes the lines to any output. Device and tables are those of the crates below; scripts, texts, statuses and limits are
-//! this project's own.
+//! [`plain`] is the call that the program makes. It reads the files that its words name from any shelf, gives a
+//! script's commands to a device and each committed change to the tables that are searched, finds the action of each
+//! frame in them, and writes the lines to any output. Device and tables are those of the crates below; scripts,
+//! texts, statuses and limits are this project's own.
 //!
 //! What is promised, on `plain` itself: where the shelf tells its files and the output tells its bytes, the status and
 //! what was written are the outcome that is defined for the words and the files; a failed read or write, and want of
-//! memory, end a run earlier, and then a front of the defined text was written. [`read_script`] is the part of the grammar
-//! that is built.
+//! memory, end a run earlier, and then a front of the defined text was written. [`read_script`] is the part of the
+//! grammar that is built.
 //!
-//! Definitions, in specs/: `Forms` (of words), `Inputs` (what the files give, or what is at fault with them) and `Outcomes`
-//! (statuses and texts, form by form); `Script` (the grammar) and `Replay` (texts). `Readings`, `Endings`, `Results` and
-//! `Steering` are the code's own. Worked rows stand in `proofs/Rows.antt`.
+//! The way of a run: `form` (what the words ask for), a module for each form (`replay`), which reads its files by
+//! `file` and runs, and `ending` (its status, and the line of a refusal); `stop` has why a form ends early. Scripts
+//! are read by `grammar`; `built` keeps back what can't be run yet. `steering` is a device with its tables.
+//!
+//! Definitions, in specs/: `Forms` (of words), `Inputs` (what the files give, or what is at fault with them) and
+//! `Outcomes` (statuses and texts, form by form); `Script` (the grammar), `Built` (what of it can be run) and
+//! `Replay` (texts). `Readings`, `Endings`, `Results` and `Steering` are the code's own. Worked rows stand in
+//! `proofs/Rows.antt`.
 #![tactic(auto)]
 
+mod built;
 mod ending;
 mod file;
 mod form;
@@ -26,6 +32,7 @@ mod steering;
 mod stop;
 mod text;
 
-pub use grammar::read_script;
+pub use built::read_script;
+pub use ending::{FAULTY_WORDS, NO_MEMORY};
 pub use program::plain;
 pub use script::{AdminLine, Item, Reason, Script, ScriptFault};

@@ -1,10 +1,7 @@
 //! The program's call: words in, files read, a text written, and a status.
 
-ghost use Rattle.std.specs.Prelude.{◌≡◌, ◌≤◌, ◌⊎◌, ◌↔◌, ℕ, None, IfSome, IsSomeAnd};
-ghost use Rattle.std.specs.Prelude.{map, take, string_bytes};
-ghost use Rattle.vnff_base.specs.Counts.{Rose};
-ghost use Rattle.vnff_base.specs.Outputs.{told_after};
-ghost use Rattle.vnff_run.specs.Endings.{FormEnds, out_call, shelf_call};
+ghost use Rattle.std.specs.Prelude.{◌≡◌, ◌≤◌, ◌⊎◌, ◌↔◌, None, IsSomeAnd, map, string_bytes};
+ghost use Rattle.vnff_run.specs.Endings.{FormEnds, Appended, AppendedFront, AppendedNothing, NoReadFailed, NoWriteFailed, ReadFailed, WhereTold, WriteFailed};
 ghost use Rattle.vnff_run.specs.Forms.{form_of, form_view};
 ghost use Rattle.vnff_run.specs.Outcomes.{outcome_in, outcome_of};
 
@@ -15,45 +12,42 @@ use crate::stop::Stop;
 use std::alloc::Global;
 use vnff_base::{Out, Shelf};
 
-/// Runs the program on its words, without its own name, and gives its exit status: 0 done, 1 an input was refused, 2 the
-/// words are no form, 3 a read failed, 4 a write failed, 5 memory ran out. The forms that are built: `replay SCRIPT`.
+/// Runs the program on its words, without its own name, and gives its exit status: 0 done, 1 an input was refused, 2
+/// the words are no form, 3 a read failed, 4 a write failed, 5 memory ran out. The forms that are built:
+/// `replay SCRIPT`.
 pub fn plain<S: Shelf, O: Out>(alloc: Global, words: &[String], shelf: &mut S, out: &mut O) -> u8
     ensures known { result ≤ 5 }
 
     // The words alone decide on 2.
     ensures words { (result ≡ 2) ↔ (form_of (map string_bytes words.now) ≡ None) }
 
-    ensures words_nothing { result ≡ 2 → O.told out.new ≡ O.told out.old }
+    ensures words_nothing { result ≡ 2 → AppendedNothing (O.state out.old) (O.state out.new) }
 
     // Of 0, 1 and 2, the status and what was written are the outcome.
-    ensures done { result ≤ 2 → IfSome (S.files shelf.old) (λ files.
-        let end = outcome_of (map string_bytes words.now) files in
-        (result ≡ end.status) × (O.told out.new ≡ told_after (O.told out.old) end.text)) }
+    ensures done { result ≤ 2 → WhereTold (S.state shelf.old) (outcome_of (map string_bytes words.now)) (λ end.
+        (result ≡ end.status) × Appended (O.state out.old) (O.state out.new) end.text) }
 
-    // What is to be done is done, and what is to be refused is refused, unless a read or a write failed, or memory ran out.
-    ensures complete { IfSome (S.files shelf.old) (λ files.
-        let end = outcome_of (map string_bytes words.now) files in
+    // What is to be done is done, and what is to be refused is refused, unless a read or a write failed, or memory ran
+    // out.
+    ensures complete { WhereTold (S.state shelf.old) (outcome_of (map string_bytes words.now)) (λ end.
         (result ≡ end.status) ⊎ (result ≡ 5)
-        ⊎ Rose (S.faults shelf.old) (S.faults shelf.new) ⊎ Rose (O.faults out.old) (O.faults out.new)) }
+        ⊎ ReadFailed (S.state shelf.old) (S.state shelf.new) ⊎ WriteFailed (O.state out.old) (O.state out.new)) }
 
     // 3 is a failure of the shelf, or a file that isn't there, and then nothing was written.
-    ensures read { result ≡ 3 → Rose (S.faults shelf.old) (S.faults shelf.new)
-        ⊎ IsSomeAnd (S.files shelf.old) (λ files.
-        let end = outcome_of (map string_bytes words.now) files in
-        end.status ≡ 3) }
-    ensures read_nothing { result ≡ 3 → O.told out.new ≡ O.told out.old }
+    ensures read { result ≡ 3 → ReadFailed (S.state shelf.old) (S.state shelf.new)
+        ⊎ IsSomeAnd (S.state shelf.old).files (λ files. (outcome_of (map string_bytes words.now) files).status ≡ 3) }
+    ensures read_nothing { result ≡ 3 → AppendedNothing (O.state out.old) (O.state out.new) }
 
     // 4 is a failure of the output.
-    ensures write { result ≡ 4 → Rose (O.faults out.old) (O.faults out.new) }
+    ensures write { result ≡ 4 → WriteFailed (O.state out.old) (O.state out.new) }
 
-    // 5 is no failure of either.
+    // 5 is no failure of the shelf or the output.
     ensures memory { result ≡ 5
-        → (S.faults shelf.new ≡ S.faults shelf.old) × (O.faults out.new ≡ O.faults out.old) }
+        → NoReadFailed (S.state shelf.old) (S.state shelf.new) × NoWriteFailed (O.state out.old) (O.state out.new) }
 
     // After 4 and 5 a front of the outcome's text was written.
-    ensures front { 4 ≤ result → IfSome (S.files shelf.old) (λ files.
-        let end = outcome_of (map string_bytes words.now) files in
-        (n : ℕ) × (O.told out.new ≡ told_after (O.told out.old) (take n end.text))) }
+    ensures front { 4 ≤ result → WhereTold (S.state shelf.old) (outcome_of (map string_bytes words.now)) (λ end.
+        AppendedFront (O.state out.old) (O.state out.new) end.text) }
 {
     match form_of(words) {
         Some(form) => exit_status(run(alloc, form, shelf, out), out),
@@ -68,8 +62,8 @@ fn run<S: Shelf, O: Out>(
     shelf: &mut S,
     out: &mut O,
 ) -> Result<(), Stop>
-    ensures { FormEnds (shelf_call S.files S.faults shelf.old shelf.new)
-        (out_call O.told O.faults out.old out.new) (outcome_in (form_view form.entry)) result }
+    ensures { FormEnds (S.state shelf.old) (S.state shelf.new) (O.state out.old) (O.state out.new)
+        (outcome_in (form_view form.entry)) result }
 {
     match form {
         Form::Replay(script) => replay(alloc, script, shelf, out),

@@ -2,9 +2,9 @@
 
 ghost use Rattle.std.specs.Prelude.{◌≡◌, ◌∷◌, []};
 ghost use Rattle.vnff_base.specs.Outputs.{Writes};
-ghost use Rattle.vnff_run.specs.Endings.{FormEnds, RunsAs, out_call, shelf_call};
+ghost use Rattle.vnff_run.specs.Endings.{FormEnds, RunsAs};
 ghost use Rattle.vnff_run.specs.Forms.{Replay};
-ghost use Rattle.vnff_run.specs.Outcomes.{done_with, outcome_in};
+ghost use Rattle.vnff_run.specs.Outcomes.{done_outcome, outcome_in};
 ghost use Rattle.vnff_run.specs.Replay.{reply_line, frame_line, item_line, lines_of, replay_text, state_behind};
 ghost use Rattle.ff_headers.specs.Frames.{headers_of};
 ghost use Rattle.ff_headers.specs.Places.{action_of};
@@ -25,8 +25,8 @@ pub fn replay<S: Shelf, O: Out>(
     shelf: &mut S,
     out: &mut O,
 ) -> Result<(), Stop>
-    ensures { FormEnds (shelf_call S.files S.faults shelf.old shelf.new)
-        (out_call O.told O.faults out.old out.new) (outcome_in (Replay name.now)) result }
+    ensures { FormEnds (S.state shelf.old) (S.state shelf.new) (O.state out.old) (O.state out.new)
+        (outcome_in (Replay name.now)) result }
 {
     let script = script_in(alloc, name, shelf)?;
     replay_script(alloc, script, out)
@@ -34,7 +34,7 @@ pub fn replay<S: Shelf, O: Out>(
 
 /// Replays a script, on a device of its own.
 fn replay_script<O: Out>(alloc: Global, script: Script, out: &mut O) -> Result<(), Stop>
-    ensures { RunsAs (out_call O.told O.faults out.old out.new) (done_with (replay_text script)) result }
+    ensures { RunsAs (O.state out.old) (O.state out.new) (done_outcome (replay_text script)) result }
 {
     let Script { caps, start, items } = script;
     let mut steering = Steering::new(alloc, caps, start)?;
@@ -43,8 +43,7 @@ fn replay_script<O: Out>(alloc: Global, script: Script, out: &mut O) -> Result<(
 
 /// Carries a command out, and writes the line of its reply.
 fn put_command<O: Out>(steering: &mut Steering, line: &AdminLine, out: &mut O) -> Result<(), Failed>
-    ensures line { Writes (O.told out.old) (O.told out.new) (O.faults out.old) (O.faults out.new)
-        (reply_line (reply_of steering.old line.now.bytes line.now.room)) result }
+    ensures line { Writes (O.state out.old) (O.state out.new) (reply_line (reply_of steering.old line.now.bytes line.now.room)) result }
     ensures state { steering.new ≡ next_state steering.old line.now.bytes line.now.room }
 {
     let reply = steering.admin(line.bytes.as_slice(), line.room);
@@ -53,16 +52,14 @@ fn put_command<O: Out>(steering: &mut Steering, line: &AdminLine, out: &mut O) -
 
 /// Writes the line of a frame.
 fn put_frame<O: Out>(steering: &Steering, frame: &[u8], out: &mut O) -> Result<(), Failed>
-    ensures { Writes (O.told out.old) (O.told out.new) (O.faults out.old) (O.faults out.new)
-        (frame_line (action_of steering.now.objects (headers_of frame.now))) result }
+    ensures { Writes (O.state out.old) (O.state out.new) (frame_line (action_of steering.now.objects (headers_of frame.now))) result }
 {
     put_frame_line(out, steering.frame(frame))
 }
 
 /// Does what an item asks for, and writes its line.
 fn put_item<O: Out>(steering: &mut Steering, item: &Item, out: &mut O) -> Result<(), Failed>
-    ensures line { Writes (O.told out.old) (O.told out.new) (O.faults out.old) (O.faults out.new)
-        (item_line steering.old item.now) result }
+    ensures line { Writes (O.state out.old) (O.state out.new) (item_line steering.old item.now) result }
     ensures state { steering.new ≡ state_behind steering.old (item.now ∷ []) }
 {
     match item {
@@ -73,8 +70,7 @@ fn put_item<O: Out>(steering: &mut Steering, item: &Item, out: &mut O) -> Result
 
 /// Does what the items ask for, in order, and writes a line for each.
 fn put_items<O: Out>(steering: &mut Steering, items: &[Item], out: &mut O) -> Result<(), Failed>
-    ensures { Writes (O.told out.old) (O.told out.new) (O.faults out.old) (O.faults out.new)
-        (lines_of steering.old items.now) result }
+    ensures { Writes (O.state out.old) (O.state out.new) (lines_of steering.old items.now) result }
 {
     for item in items {
         put_item(steering, item, out)?;

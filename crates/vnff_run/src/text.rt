@@ -10,8 +10,7 @@ use vnff_base::{Failed, Out, hex_put};
 
 /// Writes a queue's number.
 fn put_number<O: Out>(out: &mut O, number: u16) -> Result<(), Failed>
-    ensures { Writes (O.told out.old) (O.told out.new) (O.faults out.old) (O.faults out.new)
-        (decimal number) result }
+    ensures { Writes (O.state out.old) (O.state out.new) (decimal number) result }
 {
     let mut buffer = Buffer::new();
     out.put(buffer.format(number).as_bytes())
@@ -20,8 +19,7 @@ fn put_number<O: Out>(out: &mut O, number: u16) -> Result<(), Failed>
 /// Writes the name of an action, with the queue of one that queues.
 #[tactic(auto, unfolding(crate::specs::Replay::action_text))]
 fn put_action<O: Out>(out: &mut O, action: Action) -> Result<(), Failed>
-    ensures { Writes (O.told out.old) (O.told out.new) (O.faults out.old) (O.faults out.new)
-        (action_text action) result }
+    ensures { Writes (O.state out.old) (O.state out.new) (action_text action) result }
 {
     match action {
         Action::Default => out.put(b"default"),
@@ -36,8 +34,7 @@ fn put_action<O: Out>(out: &mut O, action: Action) -> Result<(), Failed>
 /// Writes the line of a frame: `frame`, its action, a line feed.
 #[tactic(auto, unfolding(crate::specs::Replay::frame_line))]
 pub fn put_frame_line<O: Out>(out: &mut O, action: Action) -> Result<(), Failed>
-    ensures { Writes (O.told out.old) (O.told out.new) (O.faults out.old) (O.faults out.new)
-        (frame_line action) result }
+    ensures { Writes (O.state out.old) (O.state out.new) (frame_line action) result }
 {
     out.put(b"frame ")?;
     put_action(out, action)?;
@@ -46,8 +43,7 @@ pub fn put_frame_line<O: Out>(out: &mut O, action: Action) -> Result<(), Failed>
 
 /// Writes the line of a reply: `reply`, its bytes in hexadecimal or `-`, a line feed.
 pub fn put_reply_line<O: Out>(out: &mut O, reply: &[u8]) -> Result<(), Failed>
-    ensures { Writes (O.told out.old) (O.told out.new) (O.faults out.old) (O.faults out.new)
-        (reply_line reply.now) result }
+    ensures { Writes (O.state out.old) (O.state out.new) (reply_line reply.now) result }
 {
     out.put(b"reply ")?;
     hex_put(out, reply)?;

@@ -10,4 +10,4 @@ returns-in_err-put g c =
 pub returns : goal.returns
 unfolding record_text
 returns g c =
-    rw (← c.record_head-head.ensures) (writes_after _ _ _ _ c.in_ok-put.ensures c.put-2.ensures)
+    rw (← c.record_head-head.ensures) (writes_after _ _ _ c.in_ok-put.ensures c.put-2.ensures)

@@ -2,17 +2,17 @@ use Rattle.std.proofs.Common.{◌≡◌, ℕ, List, [], ◌∷◌, length, refl,
 use Rattle.std.specs.Prelude.{fold}
 use Rattle.std.proofs.lemmas.List.{take_all}
 use Rattle.ff_headers.specs.Objects.{FlowObjects, no_objects}
-use Rattle.ff_headers.specs.Changes.{step, after, counted, change_count, saturated}
+use Rattle.ff_headers.specs.Changes.{step, after, count_after, change_count, saturated}
 use Rattle.ff_headers.specs.declared.limits.Limits.{Limits}
 use Rattle.ff_headers.specs.declared.change.Change.{Change}
 use Rattle.matcher.specs.Tables.{applied, tables_with}
 use Rattle.matcher.proofs.laws.changes_leave_what_their_list_does.Goals as goal
 
 -- objects and count go their own ways
-each_apart : (limits : Limits) (objects : FlowObjects) (count : ℕ) (changes : List Change) → fold applied (tables_with limits objects count) changes ≡ tables_with limits (fold (step limits) objects changes) (fold counted count changes)
+each_apart : (limits : Limits) (objects : FlowObjects) (count : ℕ) (changes : List Change) → fold applied (tables_with limits objects count) changes ≡ tables_with limits (fold (step limits) objects changes) (fold count_after count changes)
 each_apart limits objects count [] = refl
 each_apart limits objects count (change ∷ changes) =
-    each_apart limits (step limits objects change) (counted count change) changes
+    each_apart limits (step limits objects change) (count_after count change) changes
 
 pub returns : goal.returns
 unfolding after

@@ -7,4 +7,4 @@ use Rattle.ntuple_text.proofs.put.put_each.Given as goal
 
 abbrev pub invariant-loop-field : goal.invariant-loop-field
 invariant-loop-field g l =
-    Wrote (g.O.Out.told l.fn.out) (g.O.Out.told l.out) (g.O.Out.faults l.fn.out) (g.O.Out.faults l.out) (flat_map (field_text l.spec) (take l.field-index l.fields))
+    Wrote (g.O.Out.state l.fn.out) (g.O.Out.state l.out) (flat_map (field_text l.spec) (take l.field-index l.fields))

@@ -9,4 +9,4 @@ returns-in_err-put g c = writes_stopped _ _ c.from_residual.ensures.1 (stopped_b
 
 pub returns : goal.returns
 unfolding loc_text
-returns g c = rw c.from.ensures at (writes_after _ _ _ _ c.in_ok-put.ensures c.put_number.ensures)
+returns g c = rw c.from.ensures at (writes_after _ _ _ c.in_ok-put.ensures c.put_number.ensures)

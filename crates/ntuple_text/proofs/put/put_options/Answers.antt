@@ -10,8 +10,8 @@ returns-in_err-put_fields g c = writes_stopped _ _ c.from_residual.ensures.1 (st
 pub returns-in_err-put_action : goal.returns-in_err-put_action
 unfolding options_text
 returns-in_err-put_action g c =
-    writes_after _ _ _ _ c.in_ok-put_fields.ensures (writes_stopped _ _ c.from_residual-in_err-put_action.ensures.1 (stopped_before c.in_err-put_action.ensures _))
+    writes_after _ _ _ c.in_ok-put_fields.ensures (writes_stopped _ _ c.from_residual-in_err-put_action.ensures.1 (stopped_before c.in_err-put_action.ensures _))
 
 pub returns : goal.returns
 unfolding options_text
-returns g c = writes_after _ _ _ _ c.in_ok-put_fields.ensures (writes_after _ _ _ _ c.in_ok-put_action.ensures c.put_loc.ensures)
+returns g c = writes_after _ _ _ c.in_ok-put_fields.ensures (writes_after _ _ _ c.in_ok-put_action.ensures c.put_loc.ensures)

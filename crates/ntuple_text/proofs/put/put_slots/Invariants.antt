@@ -7,4 +7,4 @@ use Rattle.ntuple_text.proofs.put.put_slots.Given as goal
 
 abbrev pub invariant-loop-slot : goal.invariant-loop-slot
 invariant-loop-slot g l =
-    Wrote (g.O.Out.told l.fn.out) (g.O.Out.told l.out) (g.O.Out.faults l.fn.out) (g.O.Out.faults l.out) (flat_map slot_text (take l.slot-index l.slots))
+    Wrote (g.O.Out.state l.fn.out) (g.O.Out.state l.out) (flat_map slot_text (take l.slot-index l.slots))

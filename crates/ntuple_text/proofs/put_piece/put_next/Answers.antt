@@ -6,4 +6,4 @@ pub returns-in_err-put : goal.returns-in_err-put
 returns-in_err-put g c = writes_stopped _ _ c.from_residual.ensures.1 (stopped_before c.in_err-put.ensures _)
 
 pub returns : goal.returns
-returns g c = writes_after _ _ _ _ c.in_ok-put.ensures c.put_piece.ensures
+returns g c = writes_after _ _ _ c.in_ok-put.ensures c.put_piece.ensures

@@ -6,4 +6,4 @@ pub returns-in_err-put_piece : goal.returns-in_err-put_piece
 returns-in_err-put_piece g c = writes_stopped _ _ c.from_residual.ensures.1 (stopped_before c.in_err-put_piece.ensures _)
 
 pub returns : goal.returns
-returns g c = writes_after _ _ _ _ c.in_ok-put_piece.ensures c.put_rest.ensures
+returns g c = writes_after _ _ _ c.in_ok-put_piece.ensures c.put_rest.ensures

@@ -7,4 +7,4 @@ use Rattle.ntuple_text.proofs.put_piece.put_rest.Given as goal
 
 abbrev pub invariant-loop-piece : goal.invariant-loop-piece
 invariant-loop-piece g l =
-    Wrote (g.O.Out.told l.fn.out) (g.O.Out.told l.out) (g.O.Out.faults l.fn.out) (g.O.Out.faults l.out) (flat_map (next_piece l.spelling l.separator) (take l.piece-index l.rest))
+    Wrote (g.O.Out.state l.fn.out) (g.O.Out.state l.out) (flat_map (next_piece l.spelling l.separator) (take l.piece-index l.rest))

@@ -19,7 +19,7 @@ pub loop-preserved : goal.loop-preserved
 loop-preserved c =
     let next = rw c.in-Some.is at c.in_ok-add_descriptor.ensures.answer in
     let inside = rw c.in-Some.is at c.in_ok-add_descriptor.ensures.next in
-    follows _ _ _ _ _ _ _ _ _ _ c.loop-test.true next c.push-in-Some.ensures.items c.in_ok-add_descriptor.ensures.ok inside c.loop.invariant
+    follows _ _ _ _ _ _ _ _ _ _ (omega arith) next c.push-in-Some.ensures.items c.in_ok-add_descriptor.ensures.ok inside c.loop.invariant
 
 pub returns-in_err-add_descriptor-2 : goal.returns-in_err-add_descriptor-2
 returns-in_err-add_descriptor-2 c =

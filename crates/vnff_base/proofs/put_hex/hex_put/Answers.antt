@@ -14,7 +14,7 @@ pub returns-in_err-put_piece : goal.returns-in_err-put_piece
 returns-in_err-put_piece g c =
     let bytes = c.args.bytes.now in
     let stopped = stopped_some hex_pair bytes c.loop-at.at c.min-end.result (omega arith) c.loop-at.invariant.wrote c.in_err-put_piece.ensures in
-    writes_stopped _ _ c.from_residual.ensures.1 (subst (Stopped _ _ _ _) (hex_text-some bytes (omega arith)) stopped)
+    writes_stopped _ _ c.from_residual.ensures.1 (subst (Stopped _ _) (hex_text-some bytes (omega arith)) stopped)
 
 pub loop-at-preserved : goal.loop-at-preserved
 loop-at-preserved g c = record {

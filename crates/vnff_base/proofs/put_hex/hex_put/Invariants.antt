@@ -7,7 +7,7 @@ use Rattle.vnff_base.proofs.put_hex.hex_put.Given as goal
 abbrev pub invariant-loop-at : goal.invariant-loop-at
 invariant-loop-at g l = record {
   within : l.at ≤ length l.bytes;
-  wrote : Wrote (g.O.Out.told l.fn.out) (g.O.Out.told l.out) (g.O.Out.faults l.fn.out) (g.O.Out.faults l.out)
+  wrote : Wrote (g.O.Out.state l.fn.out) (g.O.Out.state l.out)
       (flat_map hex_pair (take l.at l.bytes));
 }
 

@@ -9,7 +9,7 @@ use Rattle.vnff_run.proofs.replay.put_items.Goals as goal
 
 pub loop-item-init : goal.loop-item-init
 unfolding state_after
-loop-item-init g c = record { state = refl; wrote = wrote_nothing _ _ }
+loop-item-init g c = record { state = refl; wrote = wrote_nothing _ }
 
 pub loop-item-preserved : goal.loop-item-preserved
 loop-item-preserved g c =

@@ -7,5 +7,5 @@ use Rattle.vnff_run.proofs.replay.put_items.Given as goal
 abbrev pub invariant-loop-item : goal.invariant-loop-item
 invariant-loop-item g l = record {
   state : l.steering ≡ state_behind l.initial.steering (take l.item-index l.items);
-  wrote : Wrote (g.O.Out.told l.initial.out) (g.O.Out.told l.out) (g.O.Out.faults l.initial.out) (g.O.Out.faults l.out) (flat_map (line_at l.initial.steering l.items) (take l.item-index (range_with_len 0 (length l.items))));
+  wrote : Wrote (g.O.Out.state l.initial.out) (g.O.Out.state l.out) (flat_map (line_at l.initial.steering l.items) (take l.item-index (range_with_len 0 (length l.items))));
 }

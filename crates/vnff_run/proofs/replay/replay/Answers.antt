@@ -8,8 +8,8 @@ pub returns-in_err-script : goal.returns-in_err-script
 unfolding outcome_in
 returns-in_err-script g c =
     let p = err_from_is_err_and c.from_residual.result c.from_residual.ensures.1 in
-    rw (p.1, p.2) (form_stops _ _ _ _ _ c.in_err-script.ensures.read (refl, refl))
+    rw (p.1, p.2) (form_stops (g.S.Shelf.state c.args.shelf.now) (g.S.Shelf.state c.script_in.new.shelf) (g.O.Out.state c.args.out.now) (g.O.Out.state c.args.out.now) _ _ _ c.in_err-script.ensures.read (refl, refl))
 
 pub returns : goal.returns
 unfolding outcome_in
-returns g c = form_runs _ _ _ _ _ _ c.in_ok-script.ensures.read c.replay_script.ensures
+returns g c = form_runs (g.S.Shelf.state c.args.shelf.now) (g.S.Shelf.state c.script_in.new.shelf) (g.O.Out.state c.args.out.now) (g.O.Out.state c.replay_script.new.out) _ _ _ _ c.in_ok-script.ensures.read c.replay_script.ensures

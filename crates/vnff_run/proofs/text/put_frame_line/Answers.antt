@@ -9,8 +9,8 @@ returns-in_err-put g c = writes_stopped _ _ c.from_residual.ensures.1 (stopped_b
 pub returns-in_err-put_action : goal.returns-in_err-put_action
 unfolding frame_line
 returns-in_err-put_action g c =
-    writes_after _ _ _ _ c.in_ok-put.ensures (writes_stopped _ _ c.from_residual-in_err-put_action.ensures.1 (stopped_before c.in_err-put_action.ensures _))
+    writes_after _ _ _ c.in_ok-put.ensures (writes_stopped _ _ c.from_residual-in_err-put_action.ensures.1 (stopped_before c.in_err-put_action.ensures _))
 
 pub returns : goal.returns
 unfolding frame_line
-returns g c = writes_after _ _ _ _ c.in_ok-put.ensures (writes_after _ _ _ _ c.in_ok-put_action.ensures c.put-2.ensures)
+returns g c = writes_after _ _ _ c.in_ok-put.ensures (writes_after _ _ _ c.in_ok-put_action.ensures c.put-2.ensures)

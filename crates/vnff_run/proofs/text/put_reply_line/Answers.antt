@@ -9,8 +9,8 @@ returns-in_err-put g c = writes_stopped _ _ c.from_residual.ensures.1 (stopped_b
 pub returns-in_err-hex_put : goal.returns-in_err-hex_put
 unfolding reply_line
 returns-in_err-hex_put g c =
-    writes_after _ _ _ _ c.in_ok-put.ensures (writes_stopped _ _ c.from_residual-in_err-hex_put.ensures.1 (stopped_before c.in_err-hex_put.ensures _))
+    writes_after _ _ _ c.in_ok-put.ensures (writes_stopped _ _ c.from_residual-in_err-hex_put.ensures.1 (stopped_before c.in_err-hex_put.ensures _))
 
 pub returns : goal.returns
 unfolding reply_line
-returns g c = writes_after _ _ _ _ c.in_ok-put.ensures (writes_after _ _ _ _ c.in_ok-hex_put.ensures c.put-2.ensures)
+returns g c = writes_after _ _ _ c.in_ok-put.ensures (writes_after _ _ _ c.in_ok-hex_put.ensures c.put-2.ensures)

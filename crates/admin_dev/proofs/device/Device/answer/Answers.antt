@@ -19,4 +19,4 @@ pub returns-in-Err : goal.returns-in-Err
 returns-in-Err c =
     let read : command_of c.args.bytes.now ≡ Err c.in-Err.fault = sym c.read_command-read.ensures.exact ∙ c.in-Err.is in
     let used = rw (c.in-Err.is, c.opcode_of.ensures) at (sym c.is_unused.ensures ∙ c.if-is_unused.false) in
-    rw c.of_fault.ensures at c.refused-in-Err.ensures ∙ sym (fault_answer c.args.self.now c.args.bytes.now c.in-Err.fault read used)
+    c.refused-in-Err.ensures ∙ sym (fault_answer c.args.self.now c.args.bytes.now c.in-Err.fault _ read c.of_fault.ensures used)

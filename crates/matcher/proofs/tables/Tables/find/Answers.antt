@@ -9,15 +9,15 @@ pub returns-in-Some : goal.returns-in-Some
 returns-in-Some g c =
     let headers = c.args.headers.now in
     let found = found_from c.in-Some.first in
-    let held = ap (λ (tables : TableState). tables.objects) c.self.view_is in
+    let same = ap (λ (tables : TableState). tables.objects) c.self.view_is in
     let here = finds c.self.inside.store.objects headers found c.limits-well_formed.ensures.well_formed.by_id.rules_rise (is_found _ _ _ c.in-Some.ensures) in
-    let says = subst (λ (objects : FlowObjects). Finds objects headers found) held here in
+    let says = subst (λ (objects : FlowObjects). Finds objects headers found) same here in
     record { value = says.value; action = says.action; first = says.first; none = says.none; cost = refl }
 
 pub returns-in-None : goal.returns-in-None
 returns-in-None g c =
     let headers = c.args.headers.now in
-    let held = ap (λ (tables : TableState). tables.objects) c.self.view_is in
+    let same = ap (λ (tables : TableState). tables.objects) c.self.view_is in
     let here = finds c.self.inside.store.objects headers found_none c.limits-well_formed.ensures.well_formed.by_id.rules_rise (none_is_found _ _ c.in-None.ensures) in
-    let says = subst (λ (objects : FlowObjects). Finds objects headers found_none) held here in
+    let says = subst (λ (objects : FlowObjects). Finds objects headers found_none) same here in
     record { value = says.value; action = says.action; first = says.first; none = says.none; cost = refl }

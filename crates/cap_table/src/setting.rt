@@ -1,0 +1,123 @@
+//! Whether the driver may set a capability.
+
+ghost use Rattle.std.specs.Prelude.{◌≡◌, IsOk};
+ghost use Rattle.std.specs.List.{list_any};
+ghost use Rattle.std.specs.Result.{result_err};
+ghost use Rattle.ff_headers.specs.Fields.{is_partial};
+ghost use Rattle.ff_headers.specs.Shapes.{codes_of, rises};
+ghost use Rattle.admin_wire.specs.declared.command.CapData.TheVariants as caps;
+ghost use Rattle.cap_table.specs.CapSets.{is_some_above, is_type_missing, is_mask_refused, cap_fault, IsSettable};
+
+use crate::capabilities::DeviceCaps;
+use crate::support::selector_of_kind;
+use admin_wire::{CapData, RawList};
+use ff_headers::{Limits, Selector, allowed};
+
+/// Why a capability isn't set. The first that holds is given.
+#[derive(Clone, Copy, Debug, PartialEq, Eq)]
+pub enum CapErr {
+    /// The id is none of the three.
+    Id,
+    /// A limit is above the device's.
+    Above,
+    /// The list of selectors is odd, its types don't rise strictly, or the device has no selector of a type.
+    SelectorType,
+    /// The device's selector of the type doesn't allow a mask, or PARTIAL_MASK is set and the device's isn't.
+    Mask,
+    /// An action byte is neither of the two.
+    Action,
+}
+
+/// The flag of a selector by which any part of its mask may be asked for.
+const PARTIAL_MASK: u8 = 1;
+
+/// Whether the device lets its driver set the capability, or else why not.
+#[tactic(auto, unfolding(crate::specs::CapSets::cap_fault))]
+pub fn may_set(device: &DeviceCaps, wanted: &CapData) -> Result<(), CapErr>
+    ensures first { result_err result ≡ cap_fault device.now wanted.now }
+    ensures settable { IsOk result → IsSettable wanted.now }
+{
+    match wanted {
+        CapData::Limits(limits) if is_some_above(device.limits(), limits) => Err(CapErr::Above),
+        CapData::Selectors(list) => may_set_selectors(device, list),
+        CapData::Actions(actions) if actions.other => Err(CapErr::Action),
+        CapData::Other(_) => Err(CapErr::Id),
+        _ => Ok(()),
+    }
+}
+
+/// Whether the device lets its driver set these selectors, or else why not.
+#[tactic(auto, unfolding(crate::specs::CapSets::cap_fault))]
+fn may_set_selectors(device: &DeviceCaps, list: &RawList) -> Result<(), CapErr>
+    ensures { result_err result ≡ cap_fault device.now (caps.Selectors list.now) }
+{
+    let RawList::Good(list) = list else {
+        return Err(CapErr::SelectorType);
+    };
+    let have = device.selectors();
+    let wanted = list.as_slice();
+    if !rises(wanted) || has_type_missing(have, wanted) {
+        return Err(CapErr::SelectorType);
+    }
+    if has_mask_refused(have, wanted) {
+        return Err(CapErr::Mask);
+    }
+    Ok(())
+}
+
+/// Whether some limit is above the other's.
+fn is_some_above(most: &Limits, limits: &Limits) -> bool
+    ensures { result ≡ is_some_above most.now limits.now }
+{
+    most.groups < limits.groups
+        || most.classifiers < limits.classifiers
+        || most.rules < limits.rules
+        || most.per_group < limits.per_group
+        || most.last_priority < limits.last_priority
+        || most.selectors < limits.selectors
+}
+
+/// Whether the types rise strictly.
+fn rises(list: &[Selector]) -> bool
+    ensures { result ≡ rises (codes_of list.now) }
+{
+    list.is_sorted_by(|a, b| a.kind().code() < b.kind().code())
+}
+
+/// Whether a capability lacks the type of some wanted selector.
+fn has_type_missing(have: &[Selector], wanted: &[Selector]) -> bool
+    ensures { result ≡ list_any (is_type_missing have.now) wanted.now }
+{
+    wanted.iter().any(|one| is_type_missing(have, one))
+}
+
+/// Whether a capability has no selector of the wanted one's type.
+fn is_type_missing(have: &[Selector], wanted: &Selector) -> bool
+    ensures { result ≡ is_type_missing have.now wanted.now }
+{
+    selector_of_kind(have, wanted.kind()).is_none()
+}
+
+/// Whether some wanted mask is beyond that of the capability's selector of its type.
+fn has_mask_refused(have: &[Selector], wanted: &[Selector]) -> bool
+    ensures { result ≡ list_any (is_mask_refused have.now) wanted.now }
+{
+    wanted.iter().any(|one| is_mask_refused(have, one))
+}
+
+/// Whether the wanted mask is beyond that of the capability's selector of its type.
+fn is_mask_refused(have: &[Selector], wanted: &Selector) -> bool
+    ensures { result ≡ is_mask_refused have.now wanted.now }
+{
+    match selector_of_kind(have, wanted.kind()) {
+        Some(one) => !allowed(one, wanted) || (is_partial(wanted) && !is_partial(one)),
+        None => false,
+    }
+}
+
+/// Whether any part of the mask may be asked for.
+fn is_partial(selector: &Selector) -> bool
+    ensures { result ≡ is_partial selector.now }
+{
+    selector.flags() & PARTIAL_MASK == PARTIAL_MASK
+}

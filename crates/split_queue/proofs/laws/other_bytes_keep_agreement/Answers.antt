@@ -1,5 +1,0 @@
-use Rattle.split_queue.proofs.AgreementLaws.{agree-kept}
-use Rattle.split_queue.proofs.laws.other_bytes_keep_agreement.Goals as goal
-
-pub returns : goal.returns
-returns c = agree-kept

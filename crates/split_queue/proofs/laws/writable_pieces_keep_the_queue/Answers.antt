@@ -1,5 +1,0 @@
-use Rattle.split_queue.proofs.AgreementLaws.{pieces-keep}
-use Rattle.split_queue.proofs.laws.writable_pieces_keep_the_queue.Goals as goal
-
-pub returns : goal.returns
-returns c = pieces-keep

@@ -1,0 +1,39 @@
+//! Laws of the two ends together. Each call does nothing: its contract is the law.
+
+ghost use Rattle.std.specs.Prelude.{◌≡◌, ℕ, ◌≤◌, List, length, Some, Ok, All};
+ghost use Rattle.guest_mem.specs.Memory.{ChangesOnly};
+ghost use Rattle.split_queue.specs.Agreement.{Agree, IsClearOf, KeepsQueue, Round, IsRound, after_round};
+ghost use Rattle.split_queue.specs.Chains.{IsInPieces};
+ghost use Rattle.split_queue.specs.DeviceEnds.{DeviceEndState, after_pop, after_push};
+ghost use Rattle.split_queue.specs.DriverEnds.{DriverEndState, after_post, take_answer};
+ghost use Rattle.split_queue.specs.declared.chain.Piece.{Piece};
+ghost use Rattle.split_queue.specs.declared.queue_place.Place.{Place};
+
+use crate::driver_end::DriverEnd;
+
+/// Ends that agree still do after a write outside of the queue's areas.
+pub fn other_bytes_keep_agreement()
+    ensures { (driver : DriverEndState) (device : DeviceEndState) (before after : List ℕ) → Agree driver device before
+        → KeepsQueue before after driver.place → Agree driver device after }
+{}
+
+/// A reply that is written into pieces that are clear of the queue leaves its areas as they were.
+pub fn writable_pieces_keep_the_queue()
+    ensures { (before after : List ℕ) (place : Place) (pieces : List Piece)
+        → ChangesOnly before after (IsInPieces pieces) → All (IsClearOf place) pieces
+        → KeepsQueue before after place }
+{}
+
+/// A round of post, pop, push_used and take, from a driver's end before the post: the take gives the chain that was
+/// pushed, with its length, the ends agree again, and no fewer descriptors are free than before.
+pub fn rounds_keep_agreement(driver: &DriverEnd)
+    ensures takes { (device : DeviceEndState) (round : Round) → IsRound driver.now device round
+        → let out = after_post driver.now (length round.pieces) in
+        take_answer round.at_take out.place out.pool out.used ≡ Ok (Some (round.head, round.len)) }
+    ensures agree { (device : DeviceEndState) (round : Round) → IsRound driver.now device round
+        → Agree (after_round driver.now round) (after_push (after_pop device)) round.at_take }
+    ensures frees { (device : DeviceEndState) (round : Round) → IsRound driver.now device round
+        → length driver.now.pool.free ≤ length (after_round driver.now round).pool.free }
+{
+    let _ = driver.free_len();
+}

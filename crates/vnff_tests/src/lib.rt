@@ -1,0 +1,19 @@
+//! Tests of the public calls of the crates below: each call once on its happy path, since a body that always wants
+//! memory is proved too, and what no clause says. Nothing stands on this crate, so that no other is proved a second
+//! time for its tests.
+#![tactic(auto)]
+
+#[cfg(test)]
+mod commands;
+#[cfg(test)]
+mod device;
+#[cfg(test)]
+mod headers;
+#[cfg(test)]
+mod maps;
+#[cfg(test)]
+mod numbers;
+#[cfg(test)]
+mod store;
+#[cfg(test)]
+mod tables;
