@@ -1,6 +1,6 @@
 -- Worked examples of the definitions: a capture of one frame, 54 bytes, in both byte orders, and faulty ones.
 use Rattle.std.proofs.Common.{◌≡◌, ℕ, List, [], ◌∷◌, ◌++◌, take, Ok, Err, refl}
-use Rattle.capture.specs.declared.fault.CaptureErr.TheVariants.{Truncated, Magic, Version, LinkType, TooLong}
+use Rattle.capture.specs.declared.error.CaptureErr.TheVariants.{Truncated, Magic, Version, LinkType, TooLong}
 use Rattle.capture.specs.FileHeaders.{number16, number32, is_version_2_4, link_type, kind_of_magic, checked_header, header_of}
 use Rattle.capture.specs.Records.{captured_length, frame_of, records_of}
 use Rattle.capture.specs.Captures.{capture_of, header_text, record_head, record_text, capture_text}

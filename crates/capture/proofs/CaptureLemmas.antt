@@ -1,6 +1,6 @@
 -- What reading a whole capture gives, by its header.
 use Rattle.std.proofs.Common.{◌≡◌, ℕ, List, drop, Result, Ok, Err, refl}
-use Rattle.capture.specs.declared.fault.CaptureErr.{CaptureErr}
+use Rattle.capture.specs.declared.error.CaptureErr.{CaptureErr}
 use Rattle.capture.specs.declared.header.CaptureHeader.{CaptureHeader}
 use Rattle.capture.specs.FileHeaders.{header_of}
 use Rattle.capture.specs.Records.{seen, records_of}

@@ -1,6 +1,6 @@
 -- Which way a test went, and which steps were taken, by what came of it.
 use Rattle.std.proofs.Common.{◌≡◌, Bool, true, false, cond, Result, Ok, Err, refl, inl, inr, ◌⊎◌}
-use Rattle.capture.specs.declared.fault.CaptureErr.{CaptureErr}
+use Rattle.capture.specs.declared.error.CaptureErr.{CaptureErr}
 use Rattle.capture.specs.Records.{◌>>=◌}
 
 pub chosen : {A : Type 0} (b : Bool) (x y z : A) → cond b x y ≡ z → ((b ≡ true) × (x ≡ z)) ⊎ ((b ≡ false) × (y ≡ z))

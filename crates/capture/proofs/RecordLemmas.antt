@@ -2,7 +2,7 @@
 use Rattle.std.proofs.Common.{◌≡◌, ℕ, zero, suc, ◌+◌, ◌<◌, ◌≤◌, Bool, false, List, [], ◌∷◌, ◌++◌, length, drop, Some, None, Result, Ok, Err, refl, ap, ◌∙◌, eqb, arith, ⊎_elim}
 use Rattle.std.proofs.lemmas.List.{length-drop, drop-drop, append_assoc, append-nil}
 use Rattle.std.proofs.lemmas.Bool.{cases_Bool, cond-false, eqb-false, eqb-true}
-use Rattle.capture.specs.declared.fault.CaptureErr.{CaptureErr}
+use Rattle.capture.specs.declared.error.CaptureErr.{CaptureErr}
 use Rattle.capture.specs.Records.{◌>>=◌, seen, with_front, frame_of, next_of, records_within, records_of}
 
 bind_same : {A B : Type 0} (read : Result A CaptureErr) (f g : A → Result B CaptureErr) → ((x : A) → f x ≡ g x) → (read >>= f) ≡ (read >>= g)

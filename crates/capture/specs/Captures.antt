@@ -2,9 +2,9 @@
 use Rattle.std.specs.Prelude.{◌≡◌, ℕ, ◌<◌, ◌≤◌, List, [], ◌∷◌, ◌++◌, length, take, drop, Result, Ok, Err}
 use Rattle.std.specs.Int.{w32, to_le_bytes}
 use Rattle.std.specs.List.{flat_map}
-use Rattle.capture.specs.declared.fault.CaptureErr.{CaptureErr}
-use Rattle.capture.specs.declared.fault.FramesErr.{FramesErr}
-use Rattle.capture.specs.declared.fault.FramesErr.TheVariants.{Bad, Memory}
+use Rattle.capture.specs.declared.error.CaptureErr.{CaptureErr}
+use Rattle.capture.specs.declared.error.FramesErr.{FramesErr}
+use Rattle.capture.specs.declared.error.FramesErr.TheVariants.{Bad, Memory}
 use Rattle.capture.specs.declared.header.CaptureHeader.{CaptureHeader}
 use Rattle.capture.specs.FileHeaders.{IsHeader, header_of}
 use Rattle.capture.specs.Records.{◌>>=◌, frame_of, records_of, AreRecords}
@@ -16,7 +16,8 @@ capture_of bytes = header_of bytes >>= λ header. records_of header.big 24 (drop
 -- The bytes are a capture of the frames: a good header, and then a record for each frame, in order.
 abbrev pub IsCapture : List ℕ → List (List ℕ) → Type 0
 IsCapture bytes frames =
-    (kind : CaptureHeader) × (header rest : List ℕ) × IsHeader kind header × (bytes ≡ header ++ rest) × AreRecords kind.big rest frames
+    (kind : CaptureHeader) × (header rest : List ℕ)
+    × IsHeader kind header × (bytes ≡ header ++ rest) × AreRecords kind.big rest frames
 
 -- The bytes are no capture, and this is their first fault.
 abbrev pub IsCaptureBad : List ℕ → CaptureErr → Type 0
@@ -25,7 +26,9 @@ IsCaptureBad bytes fault = capture_of bytes ≡ Err fault
 -- The record at an offset is at fault, and the bytes before it are a capture.
 abbrev pub IsRecordFault : List ℕ → CaptureErr → Type 0
 IsRecordFault bytes fault =
-    (kind : CaptureHeader) × (frames : List (List ℕ)) × (at : ℕ) × (header_of bytes ≡ Ok kind) × (24 ≤ at) × (at < length bytes) × IsCapture (take at bytes) frames × (frame_of kind.big at (drop at bytes) ≡ Err fault)
+    (kind : CaptureHeader) × (frames : List (List ℕ)) × (at : ℕ)
+    × (header_of bytes ≡ Ok kind) × (24 ≤ at) × (at < length bytes) × IsCapture (take at bytes) frames
+    × (frame_of kind.big at (drop at bytes) ≡ Err fault)
 
 -- A refusal: the first fault, or that memory ran out.
 abbrev pub Refuses : FramesErr → Result (List (List ℕ)) CaptureErr → Type 0

@@ -3,8 +3,8 @@
 use Rattle.std.specs.Prelude.{◌≡◌, ℕ, ◌%◌, ◌==◌, ◌&&◌, Bool, true, false, if◌then◌else◌, nat_lt, List, [], ◌∷◌, length, take, drop, Option, Some, None, Result, Ok, Err}
 use Rattle.std.specs.Int.{w16, w32, from_be_bytes, from_le_bytes}
 use Rattle.std.specs.Str.{bytes_eq}
-use Rattle.capture.specs.declared.fault.CaptureErr.{CaptureErr}
-use Rattle.capture.specs.declared.fault.CaptureErr.TheVariants.{Truncated, Magic, Version, LinkType}
+use Rattle.capture.specs.declared.error.CaptureErr.{CaptureErr}
+use Rattle.capture.specs.declared.error.CaptureErr.TheVariants.{Truncated, Magic, Version, LinkType}
 use Rattle.capture.specs.declared.header.CaptureHeader.{CaptureHeader}
 
 -- the 16-bit number that bytes begin with, in the file's byte order

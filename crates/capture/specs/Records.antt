@@ -1,7 +1,7 @@
 -- The records of a capture file: one for each frame, after the published pcap 2.4 format.
 use Rattle.std.specs.Prelude.{◌≡◌, ℕ, zero, suc, ◌+◌, ◌≤◌, ◌==◌, Bool, if◌then◌else◌, nat_lt, List, [], ◌∷◌, ◌++◌, length, take, drop, Option, Some, None, Result, Ok, Err}
-use Rattle.capture.specs.declared.fault.CaptureErr.{CaptureErr}
-use Rattle.capture.specs.declared.fault.CaptureErr.TheVariants.{Truncated, TooLong}
+use Rattle.capture.specs.declared.error.CaptureErr.{CaptureErr}
+use Rattle.capture.specs.declared.error.CaptureErr.TheVariants.{Truncated, TooLong}
 use Rattle.capture.specs.FileHeaders.{number32}
 
 infixl 10 ◌>>=◌
@@ -38,7 +38,9 @@ abbrev pub records_within : ℕ → Bool → ℕ → List ℕ → Result (List (
 records_within n big at [] = Ok []
 records_within zero big at (b ∷ bs) = Ok []
 records_within (suc n) big at (b ∷ bs) =
-    frame_of big at (b ∷ bs) >>= λ frame. (records_within n big (at + (16 + length frame)) (drop (16 + length frame) (b ∷ bs)) >>= λ frames. Ok (frame ∷ frames))
+    frame_of big at (b ∷ bs) >>= λ frame.
+    (records_within n big (at + (16 + length frame)) (drop (16 + length frame) (b ∷ bs)) >>= λ frames.
+    Ok (frame ∷ frames))
 
 -- the frames of the records that the bytes are, of which the first stands at an offset, or the first fault; a record has
 -- at least one byte, so there are no more records than bytes

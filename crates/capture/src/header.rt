@@ -3,7 +3,7 @@
 ghost use Rattle.std.specs.Prelude.{◌≡◌, ◌≤◌, length, OnOk};
 ghost use Rattle.capture.specs.FileHeaders.{header_of, kind_of_magic, is_version_2_4, link_type};
 
-use crate::fault::CaptureErr;
+use crate::error::CaptureErr;
 use crate::number::{u16_of, u32_of};
 
 /// How many bytes a header has.

@@ -1,7 +1,7 @@
 //! Laws of the definitions. Each call does nothing: its contract is the law.
 
 ghost use Rattle.std.specs.Prelude.{◌≡◌, ◌↔◌, ◌≤◌, ◌⊎◌, ℕ, List, length, All, Ok, Err};
-ghost use Rattle.capture.specs.declared.fault.CaptureErr.{CaptureErr};
+ghost use Rattle.capture.specs.declared.error.CaptureErr.{CaptureErr};
 ghost use Rattle.capture.specs.FileHeaders.{header_of};
 ghost use Rattle.capture.specs.Captures.{capture_of, capture_text, IsCapture, IsCaptureBad, IsRecordFault};
 

@@ -14,7 +14,7 @@
 //! format's words, which bytes are a capture, what stands before a fault, and what is written.
 #![tactic(auto)]
 
-mod fault;
+mod error;
 mod frames;
 mod header;
 pub mod laws;
@@ -25,7 +25,7 @@ mod record;
 mod tests;
 mod writing;
 
-pub use fault::{CaptureErr, FramesErr};
+pub use error::{CaptureErr, FramesErr};
 pub use frames::Frames;
 pub use header::{CaptureHeader, read_header};
 pub use reading::read_frames;

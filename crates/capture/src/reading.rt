@@ -4,7 +4,7 @@ ghost use Rattle.std.specs.Prelude.{◌≡◌, ◌+◌, ◌*◌, ◌≤◌, [], 
 ghost use Rattle.capture.specs.Records.{seen, with_front, records_of};
 ghost use Rattle.capture.specs.Captures.{Refuses, GivesFrames, IsCaptureBad, capture_of};
 
-use crate::fault::{CaptureErr, FramesErr};
+use crate::error::{CaptureErr, FramesErr};
 use crate::frames::Frames;
 use crate::header::{CaptureHeader, HEADER_SIZE, read_header};
 use crate::record::{RECORD_SIZE, next_frame};

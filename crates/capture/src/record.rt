@@ -4,7 +4,7 @@ ghost use Rattle.std.specs.Prelude.{◌≡◌, ◌+◌, ◌≤◌, ◌↔◌, le
 ghost use Rattle.std.specs.Option.{option_copied};
 ghost use Rattle.capture.specs.Records.{seen, frame_of, next_of};
 
-use crate::fault::CaptureErr;
+use crate::error::CaptureErr;
 use crate::header::CaptureHeader;
 use crate::number::u32_of;
 

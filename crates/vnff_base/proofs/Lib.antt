@@ -1,3 +1,4 @@
+pub mod Gathering
 pub mod HexLemmas
 pub mod LineLemmas
 pub mod NumberLemmas

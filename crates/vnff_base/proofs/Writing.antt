@@ -83,7 +83,7 @@ wrote_items {a = a} {b = b} text items i all wrote =
     subst (λ xs. Wrote a b (flat_map text xs)) (take_all i items all) wrote
 
 -- the text of a list's items up to j, of which those before i stand in front
-flat_map-take_between : {A : Type 0} (text : A → List ℕ) (items : List A) (i j : ℕ) → i ≤ j → flat_map text (take j items) ≡ flat_map text (take i items) ++ flat_map text (take (j - i) (drop i items))
+pub flat_map-take_between : {A : Type 0} (text : A → List ℕ) (items : List A) (i j : ℕ) → i ≤ j → flat_map text (take j items) ≡ flat_map text (take i items) ++ flat_map text (take (j - i) (drop i items))
 flat_map-take_between text items i j before =
     let whole : i + (j - i) ≡ j = omega arith in
     ap (λ n. flat_map text (take n items)) (sym whole) ∙ ap (flat_map text) (take-add i (j - i) items) ∙ flat_map-append text (take i items) (take (j - i) (drop i items))

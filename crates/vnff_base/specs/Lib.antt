@@ -1,5 +1,6 @@
 pub mod Bytes
 pub mod Counts
+pub mod Gatherings
 pub mod Hex
 pub mod Lines
 pub mod MemOuts

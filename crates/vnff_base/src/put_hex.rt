@@ -3,9 +3,11 @@
 ghost use Rattle.std.specs.Prelude.{◌≡◌, ◌+◌, ◌*◌, ◌<◌, ◌≤◌, length, take};
 ghost use Rattle.std.specs.Char.{digit_char};
 ghost use Rattle.std.specs.List.{flat_map};
+ghost use Rattle.vnff_base.specs.Gatherings.{Gathers};
 ghost use Rattle.vnff_base.specs.Hex.{hex_text, hex_pair};
 ghost use Rattle.vnff_base.specs.Outputs.{Writes};
 
+use crate::gathered::Gathered;
 use crate::out::{Failed, Out};
 
 /// How many bytes are spelled for one put.
@@ -35,6 +37,32 @@ fn put_piece<O: Out>(out: &mut O, piece: &[u8]) -> Result<(), Failed>
     let mut digits = [0u8; 2 * PIECE];
     spell(piece, &mut digits);
     out.put(&digits[..2 * piece.len()])
+}
+
+/// Writes the bytes in hexadecimal, as `hex_put` does, behind a text that is gathered.
+pub fn hex_gather<O: Out>(text: &mut Gathered, out: &mut O, bytes: &[u8]) -> Result<(), Failed>
+    ensures { Gathers (O.state out.old) (O.state out.new) text.old text.new (hex_text bytes.now) result }
+{
+    if bytes.is_empty() {
+        return text.put(out, b"-");
+    }
+    let mut at = 0;
+    while at < bytes.len() {
+        let end = bytes.len().min(at + PIECE);
+        gather_piece(text, out, &bytes[at..end])?;
+        at = end;
+    }
+    Ok(())
+}
+
+/// Writes the digits of a few bytes as one piece of the text.
+fn gather_piece<O: Out>(text: &mut Gathered, out: &mut O, piece: &[u8]) -> Result<(), Failed>
+    requires { length piece.now ≤ PIECE }
+    ensures { Gathers (O.state out.old) (O.state out.new) text.old text.new (flat_map hex_pair piece.now) result }
+{
+    let mut digits = [0u8; 2 * PIECE];
+    spell(piece, &mut digits);
+    text.put(out, &digits[..2 * piece.len()])
 }
 
 /// Writes the digits of some bytes into the front of a buffer.

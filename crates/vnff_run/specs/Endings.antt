@@ -96,7 +96,8 @@ FormStops shelf shelf_new out out_new outcome stops.Memory =
     × WhereTold shelf outcome (λ end. AppendedFront out out_new end.text)
 
 -- A form is carried out with status 0, or stops.
-abbrev pub FormEnds : {A : Type 0} → ShelfState → ShelfState → OutputState → OutputState → (Files → Outcome) → Result A Stop → Type 0
+abbrev pub FormEnds : {A : Type 0} → ShelfState → ShelfState → OutputState → OutputState
+    → (Files → Outcome) → Result A Stop → Type 0
 FormEnds shelf shelf_new out out_new outcome (Ok _) = WhereTold shelf outcome (λ end. IsDone out out_new end)
 FormEnds shelf shelf_new out out_new outcome (Err stop) = FormStops shelf shelf_new out out_new outcome stop
 

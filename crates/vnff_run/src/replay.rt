@@ -1,6 +1,7 @@
 //! The form `replay SCRIPT`: the items of a script, in order, and a line for each.
 
-ghost use Rattle.std.specs.Prelude.{◌≡◌, ◌∷◌, []};
+ghost use Rattle.std.specs.Prelude.{◌≡◌, ◌∷◌, [], OnOk};
+ghost use Rattle.vnff_base.specs.Gatherings.{Gathers};
 ghost use Rattle.vnff_base.specs.Outputs.{Writes};
 ghost use Rattle.vnff_run.specs.Endings.{FormEnds, RunsAs};
 ghost use Rattle.vnff_run.specs.Forms.{Replay};
@@ -16,7 +17,7 @@ use crate::steering::Steering;
 use crate::stop::Stop;
 use crate::text::{put_frame_line, put_reply_line};
 use std::alloc::Global;
-use vnff_base::{Failed, Out, Shelf};
+use vnff_base::{Failed, Gathered, Out, Shelf};
 
 /// Replays the script in a file.
 pub fn replay<S: Shelf, O: Out>(
@@ -38,42 +39,82 @@ fn replay_script<O: Out>(alloc: Global, script: Script, out: &mut O) -> Result<(
 {
     let Script { caps, start, items } = script;
     let mut steering = Steering::new(alloc, caps, start)?;
-    Ok(put_items(&mut steering, items.as_slice(), out)?)
+    let mut text = Gathered::new(alloc)?;
+    Ok(put_text(&mut steering, items.as_slice(), &mut text, out)?)
 }
 
-/// Carries a command out, and writes the line of its reply.
-fn put_command<O: Out>(steering: &mut Steering, line: &AdminLine, out: &mut O) -> Result<(), Failed>
-    ensures line { Writes (O.state out.old) (O.state out.new) (reply_line (reply_of steering.old line.now.bytes line.now.room)) result }
-    ensures state { steering.new ≡ next_state steering.old line.now.bytes line.now.room }
+/// Does what the items ask for, in order, and writes the whole text of their lines.
+fn put_text<O: Out>(
+    steering: &mut Steering,
+    items: &[Item],
+    text: &mut Gathered,
+    out: &mut O,
+) -> Result<(), Failed>
+    requires { text.old ≡ [] }
+    ensures { Writes (O.state out.old) (O.state out.new) (lines_of steering.old items.now) result }
 {
-    let reply = steering.admin(line.bytes.as_slice(), line.room);
-    put_reply_line(out, reply.as_slice())
-}
-
-/// Writes the line of a frame.
-fn put_frame<O: Out>(steering: &Steering, frame: &[u8], out: &mut O) -> Result<(), Failed>
-    ensures { Writes (O.state out.old) (O.state out.new) (frame_line (action_of steering.now.objects (headers_of frame.now))) result }
-{
-    put_frame_line(out, steering.frame(frame))
-}
-
-/// Does what an item asks for, and writes its line.
-fn put_item<O: Out>(steering: &mut Steering, item: &Item, out: &mut O) -> Result<(), Failed>
-    ensures line { Writes (O.state out.old) (O.state out.new) (item_line steering.old item.now) result }
-    ensures state { steering.new ≡ state_behind steering.old (item.now ∷ []) }
-{
-    match item {
-        Item::Admin(line) => put_command(steering, line, out),
-        Item::Frame(frame) => put_frame(steering, frame.as_slice(), out),
-    }
+    put_items(steering, items, text, out)?;
+    text.finish(out)
 }
 
 /// Does what the items ask for, in order, and writes a line for each.
-fn put_items<O: Out>(steering: &mut Steering, items: &[Item], out: &mut O) -> Result<(), Failed>
-    ensures { Writes (O.state out.old) (O.state out.new) (lines_of steering.old items.now) result }
+fn put_items<O: Out>(
+    steering: &mut Steering,
+    items: &[Item],
+    text: &mut Gathered,
+    out: &mut O,
+) -> Result<(), Failed>
+    ensures lines { Gathers (O.state out.old) (O.state out.new) text.old text.new
+        (lines_of steering.old items.now) result }
+    ensures state { OnOk result (steering.new ≡ state_behind steering.old items.now) }
 {
     for item in items {
-        put_item(steering, item, out)?;
+        put_item(steering, item, text, out)?;
     }
     Ok(())
+}
+
+/// Does what an item asks for, and writes its line.
+fn put_item<O: Out>(
+    steering: &mut Steering,
+    item: &Item,
+    text: &mut Gathered,
+    out: &mut O,
+) -> Result<(), Failed>
+    ensures line { Gathers (O.state out.old) (O.state out.new) text.old text.new
+        (item_line steering.old item.now) result }
+    ensures state { steering.new ≡ state_behind steering.old (item.now ∷ []) }
+{
+    match item {
+        Item::Admin(line) => put_command(steering, line, text, out),
+        Item::Frame(frame) => put_frame(steering, frame.as_slice(), text, out),
+    }
+}
+
+/// Carries a command out, and writes the line of its reply.
+fn put_command<O: Out>(
+    steering: &mut Steering,
+    line: &AdminLine,
+    text: &mut Gathered,
+    out: &mut O,
+) -> Result<(), Failed>
+    ensures line { Gathers (O.state out.old) (O.state out.new) text.old text.new
+        (reply_line (reply_of steering.old line.now.bytes line.now.room)) result }
+    ensures state { steering.new ≡ next_state steering.old line.now.bytes line.now.room }
+{
+    let reply = steering.admin(line.bytes.as_slice(), line.room);
+    put_reply_line(text, out, reply.as_slice())
+}
+
+/// Writes the line of a frame.
+fn put_frame<O: Out>(
+    steering: &Steering,
+    frame: &[u8],
+    text: &mut Gathered,
+    out: &mut O,
+) -> Result<(), Failed>
+    ensures { Gathers (O.state out.old) (O.state out.new) text.old text.new
+        (frame_line (action_of steering.now.objects (headers_of frame.now))) result }
+{
+    put_frame_line(text, out, steering.frame(frame))
 }
