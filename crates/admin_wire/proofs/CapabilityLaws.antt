@@ -13,7 +13,8 @@ use Rattle.admin_wire.specs.declared.error.WireErr.{WireErr}
 use Rattle.admin_wire.specs.Capabilities.{limits_of, selectors_of, raw_actions, actions_of, cap_data_of, cap_of}
 use Rattle.admin_wire.specs.Codes.{limits_cap, selectors_cap, actions_cap}
 use Rattle.admin_wire.specs.Fields.{Field, Spells}
-use Rattle.admin_wire.specs.Layouts.{cap_id, cap_head_fields, limits_fields, list_fields, actions_fields, IsGoodList, HasCapLayout, IsCapLayout}
+use Rattle.admin_wire.specs.LaidOut.{IsGoodList, HasCapLayout, IsCapLayout}
+use Rattle.admin_wire.specs.Layouts.{cap_id, cap_head_fields, limits_fields, list_fields, actions_fields}
 use Rattle.admin_wire.specs.Lists.{list_of}
 use Rattle.admin_wire.proofs.ListLaws.{list_spelled, list_back}
 use Rattle.admin_wire.proofs.Reading.{long_enough, after_step, Begins}
@@ -22,7 +23,8 @@ use Rattle.admin_wire.proofs.Walk.{At, Left-start, number_8, number_16, number_3
 
 -- ---- what is laid out reads so
 
-limits_spelled : (limits : LimitParts) (bytes rest : List ℕ) → Spells bytes (limits_fields limits) rest → limits_of bytes ≡ Ok (Limits limits)
+limits_spelled : (limits : LimitParts) (bytes rest : List ℕ) → Spells bytes (limits_fields limits) rest
+    → limits_of bytes ≡ Ok (Limits limits)
 unfolding limits_of
 limits_spelled limits bytes rest s =
     let groups = number_32 (Left-start bytes (limits_fields limits) rest s) in
@@ -47,7 +49,8 @@ selectors_spelled : (list : RawList) (bytes rest : List ℕ) → IsGoodList list
 unfolding selectors_of
 selectors_spelled list bytes rest good s = rw (list_spelled list bytes rest good s) refl
 
-actions_spelled : (given bytes rest : List ℕ) → Spells bytes (actions_fields given) rest → actions_of bytes ≡ Ok (Actions (raw_actions given))
+actions_spelled : (given bytes rest : List ℕ) → Spells bytes (actions_fields given) rest
+    → actions_of bytes ≡ Ok (Actions (raw_actions given))
 unfolding actions_of
 actions_spelled given bytes rest s =
     let count = number_8 (Left-start bytes (actions_fields given) rest s) in
@@ -55,7 +58,8 @@ actions_spelled given bytes rest s =
     let here = ended read.1 in
     rw (count.0, le-ltb (length bytes) (8 + length given) (omega arith), read.0) refl
 
-pub cap_data_spelled : (cap : CapData) (fields : List Field) (bytes rest : List ℕ) → HasCapLayout cap → IsCapLayout cap fields
+pub cap_data_spelled : (cap : CapData) (fields : List Field) (bytes rest : List ℕ) → HasCapLayout cap
+    → IsCapLayout cap fields
     → Spells bytes fields rest → cap_data_of (cap_id cap) bytes ≡ Ok cap
 unfolding cap_data_of
 cap_data_spelled (Limits limits) fields bytes rest has is s =
@@ -68,12 +72,14 @@ cap_data_spelled (Actions actions) fields bytes rest has is s =
 cap_data_spelled (Other id) fields bytes rest has is s =
     rw (ne_eqb id limits_cap has.0, ne_eqb id selectors_cap has.1, ne_eqb id actions_cap has.2) refl
 
-pub cap_head_spelled : (id : ℕ) (bytes mid : List ℕ) → Spells bytes (cap_head_fields id) mid → (le16_at bytes 0 ≡ id) × At bytes 8 mid
+pub cap_head_spelled : (id : ℕ) (bytes mid : List ℕ) → Spells bytes (cap_head_fields id) mid
+    → (le16_at bytes 0 ≡ id) × At bytes 8 mid
 cap_head_spelled id bytes mid s =
     let read = number_16 (Left-start bytes (cap_head_fields id) mid s) in
     (read.0, ended (skipped read.1))
 
-pub cap_spelled : (cap : CapData) (fields : List Field) (bytes rest : List ℕ) → HasCapLayout cap → IsCapLayout cap fields
+pub cap_spelled : (cap : CapData) (fields : List Field) (bytes rest : List ℕ) → HasCapLayout cap
+    → IsCapLayout cap fields
     → Spells bytes (cap_head_fields (cap_id cap) ++ fields) rest → cap_of bytes ≡ Ok cap
 unfolding cap_of
 cap_spelled cap fields bytes rest has is s =
@@ -83,7 +89,8 @@ cap_spelled cap fields bytes rest has is s =
 
 -- ---- what reads so is laid out
 
-limits_back : (limits : LimitParts) (bytes : List ℕ) → AreBytes bytes → limits_of bytes ≡ Ok (Limits limits) → Begins bytes (limits_fields limits)
+limits_back : (limits : LimitParts) (bytes : List ℕ) → AreBytes bytes → limits_of bytes ≡ Ok (Limits limits)
+    → Begins bytes (limits_fields limits)
 unfolding limits_of
 limits_back limits bytes all h =
     let whole = long_enough (length bytes) 18 _ _ (Limits limits) h in
@@ -101,7 +108,8 @@ limits_back limits bytes all h =
     (spell_32 all (omega arith) refl (spell_8 all (omega arith) refl (spell_8 all (omega arith) refl spell_end))))) in
     subst (λ (l : LimitParts). Begins bytes (limits_fields l)) is (drop 18 bytes, spelled.spells)
 
-selectors_back : (list : RawList) (bytes : List ℕ) → AreBytes bytes → IsGoodList list → selectors_of bytes ≡ Ok (Selectors list)
+selectors_back : (list : RawList) (bytes : List ℕ) → AreBytes bytes → IsGoodList list
+    → selectors_of bytes ≡ Ok (Selectors list)
     → Begins bytes (list_fields list)
 unfolding selectors_of
 selectors_back list bytes all good h =
@@ -157,7 +165,8 @@ id_back id cap bytes h =
 abbrev pub BeginsCap : List ℕ → CapData → Type 0
 BeginsCap bytes cap = (fields : List Field) × IsCapLayout cap fields × Begins bytes fields
 
-cap_data_back : (cap : CapData) (bytes : List ℕ) → AreBytes bytes → HasCapLayout cap → cap_data_of (cap_id cap) bytes ≡ Ok cap → BeginsCap bytes cap
+cap_data_back : (cap : CapData) (bytes : List ℕ) → AreBytes bytes → HasCapLayout cap
+    → cap_data_of (cap_id cap) bytes ≡ Ok cap → BeginsCap bytes cap
 unfolding cap_data_of
 cap_data_back (Limits limits) bytes all has h = (limits_fields limits, refl, limits_back limits bytes all h)
 cap_data_back (Selectors list) bytes all has h = (list_fields list, refl, selectors_back list bytes all has h)
@@ -165,7 +174,8 @@ cap_data_back (Actions actions) bytes all has h =
     let read = actions_back actions bytes all h in (actions_fields read.0, (read.0, read.1, refl), read.2)
 cap_data_back (Other id) bytes all has h = ([], refl, (bytes, refl))
 
-pub cap_head_back : (bytes : List ℕ) → AreBytes bytes → 8 ≤ length bytes → Spells bytes (cap_head_fields (le16_at bytes 0)) (drop 8 bytes)
+pub cap_head_back : (bytes : List ℕ) → AreBytes bytes → 8 ≤ length bytes
+    → Spells bytes (cap_head_fields (le16_at bytes 0)) (drop 8 bytes)
 cap_head_back bytes all whole =
     let read : Spelled bytes 0 (cap_head_fields (le16_at bytes 0)) (drop 8 bytes)
     = spell_16 all (omega arith) refl (spell_reserved (omega arith) spell_end) in

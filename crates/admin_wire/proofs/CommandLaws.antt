@@ -15,7 +15,8 @@ use Rattle.admin_wire.specs.Capabilities.{cap_of}
 use Rattle.admin_wire.specs.Codes.{header_size}
 use Rattle.admin_wire.specs.Fields.{Field, Spells}
 use Rattle.admin_wire.specs.Headers.{opcode_of, header_of}
-use Rattle.admin_wire.specs.Layouts.{opcode_for, header_fields, head_fields, bare_head_fields, object_fields, cap_head_fields, cap_id, data_fields, HasLayout, IsDataLayout, IsLaidOut}
+use Rattle.admin_wire.specs.LaidOut.{HasLayout, IsDataLayout, IsLaidOut}
+use Rattle.admin_wire.specs.Layouts.{opcode_for, header_fields, head_fields, bare_head_fields, object_fields, cap_head_fields, cap_id, data_fields}
 use Rattle.admin_wire.specs.Objects.{head_of, bare_head_of, head_and_object}
 use Rattle.admin_wire.specs.Opcodes.{code_of}
 use Rattle.admin_wire.specs.Wire.{list_use_of, cap_get_of, query_of, destroy_of, data_of, command_of}
@@ -28,20 +29,23 @@ use Rattle.admin_wire.proofs.Walk.{Left-start, number_64, ended, Spells-append}
 
 -- ---- what is laid out reads so
 
-list_use_spelled : (bitmap : ℕ) (bytes rest : List ℕ) → Spells bytes (data_fields (ListUse bitmap)) rest → list_use_of bytes ≡ Ok (ListUse bitmap)
+list_use_spelled : (bitmap : ℕ) (bytes rest : List ℕ) → Spells bytes (data_fields (ListUse bitmap)) rest
+    → list_use_of bytes ≡ Ok (ListUse bitmap)
 unfolding list_use_of
 list_use_spelled bitmap bytes rest s =
     let read = number_64 (Left-start bytes (data_fields (ListUse bitmap)) rest s) in
     let here = ended read.1 in
     rw (le-ltb (length bytes) 8 (omega arith), read.0) refl
 
-cap_get_spelled : (id : ℕ) (bytes rest : List ℕ) → Spells bytes (cap_head_fields id) rest → cap_get_of bytes ≡ Ok (CapGet id)
+cap_get_spelled : (id : ℕ) (bytes rest : List ℕ) → Spells bytes (cap_head_fields id) rest
+    → cap_get_of bytes ≡ Ok (CapGet id)
 unfolding cap_get_of
 cap_get_spelled id bytes rest s =
     let read = cap_head_spelled id bytes rest s in
     rw (le-ltb (length bytes) 8 (omega (arith, read.1.count)), read.0) refl
 
-query_spelled : (head : ObjHead) (bytes rest : List ℕ) → Spells bytes (head_fields head) rest → query_of bytes ≡ Ok (Query head)
+query_spelled : (head : ObjHead) (bytes rest : List ℕ) → Spells bytes (head_fields head) rest
+    → query_of bytes ≡ Ok (Query head)
 unfolding query_of
 query_spelled head bytes rest s =
     let read = head_spelled head bytes rest s in
@@ -54,7 +58,8 @@ destroy_spelled head bytes rest none s =
     let read = bare_head_spelled head bytes rest none s in
     rw (le-ltb (length bytes) 8 (omega (arith, read.1.count)), read.0) refl
 
-data_spelled : (command : Command) (fields : List Field) (bytes rest : List ℕ) → HasLayout command → IsDataLayout command fields
+data_spelled : (command : Command) (fields : List Field) (bytes rest : List ℕ) → HasLayout command
+    → IsDataLayout command fields
     → Spells bytes fields rest → data_of (opcode_for command) bytes ≡ Ok command
 unfolding data_of
 data_spelled ListQuery fields bytes rest has is s = refl
@@ -73,7 +78,8 @@ data_spelled (Destroy head) fields bytes rest has is s =
     destroy_spelled head bytes rest has (subst (λ (f : List Field). Spells bytes f rest) is s)
 
 -- what is laid out as a command reads as that command
-pub command_laid_out : (bytes : List ℕ) (command : Command) → HasLayout command → IsLaidOut bytes command → command_of bytes ≡ Ok command
+pub command_laid_out : (bytes : List ℕ) (command : Command) → HasLayout command → IsLaidOut bytes command
+    → command_of bytes ≡ Ok command
 unfolding command_of
 command_laid_out bytes command has laid_out =
     let header = header_fields (opcode_for command) in
@@ -83,7 +89,8 @@ command_laid_out bytes command has laid_out =
 
 -- ---- what reads so is laid out
 
-list_use_back : (bitmap : ℕ) (bytes : List ℕ) → AreBytes bytes → list_use_of bytes ≡ Ok (ListUse bitmap) → Begins bytes (data_fields (ListUse bitmap))
+list_use_back : (bitmap : ℕ) (bytes : List ℕ) → AreBytes bytes → list_use_of bytes ≡ Ok (ListUse bitmap)
+    → Begins bytes (data_fields (ListUse bitmap))
 unfolding list_use_of
 list_use_back bitmap bytes all h =
     let whole = long_enough (length bytes) 8 _ _ (ListUse bitmap) h in
@@ -91,21 +98,24 @@ list_use_back bitmap bytes all h =
     let read : Spelled bytes 0 (data_fields (ListUse bitmap)) (drop 8 bytes) = spell_64 all whole.0 is spell_end in
     (drop 8 bytes, read.spells)
 
-cap_get_back : (id : ℕ) (bytes : List ℕ) → AreBytes bytes → cap_get_of bytes ≡ Ok (CapGet id) → Begins bytes (cap_head_fields id)
+cap_get_back : (id : ℕ) (bytes : List ℕ) → AreBytes bytes → cap_get_of bytes ≡ Ok (CapGet id)
+    → Begins bytes (cap_head_fields id)
 unfolding cap_get_of
 cap_get_back id bytes all h =
     let whole = long_enough (length bytes) 8 _ _ (CapGet id) h in
     let is : le16_at bytes 0 ≡ id = cc whole.1 in
     (drop 8 bytes, subst (λ n. Spells bytes (cap_head_fields n) (drop 8 bytes)) is (cap_head_back bytes all whole.0))
 
-query_back : (head : ObjHead) (bytes : List ℕ) → AreBytes bytes → query_of bytes ≡ Ok (Query head) → Begins bytes (head_fields head)
+query_back : (head : ObjHead) (bytes : List ℕ) → AreBytes bytes → query_of bytes ≡ Ok (Query head)
+    → Begins bytes (head_fields head)
 unfolding query_of
 query_back head bytes all h =
     let whole = long_enough (length bytes) 16 _ _ (Query head) h in
     let is : head_of bytes ≡ head = cc whole.1 in
     (drop 16 bytes, subst (λ (x : ObjHead). Spells bytes (head_fields x) (drop 16 bytes)) is (head_back bytes all whole.0))
 
-destroy_back : (head : ObjHead) (bytes : List ℕ) → AreBytes bytes → destroy_of bytes ≡ Ok (Destroy head) → Begins bytes (bare_head_fields head)
+destroy_back : (head : ObjHead) (bytes : List ℕ) → AreBytes bytes → destroy_of bytes ≡ Ok (Destroy head)
+    → Begins bytes (bare_head_fields head)
 unfolding destroy_of
 destroy_back head bytes all h =
     let whole = long_enough (length bytes) 8 _ _ (Destroy head) h in
@@ -113,10 +123,12 @@ destroy_back head bytes all h =
     (drop 8 bytes, subst (λ (x : ObjHead). Spells bytes (bare_head_fields x) (drop 8 bytes)) is (bare_head_back bytes all whole.0))
 
 -- the opcode whose data is read is the command's
-same_opcode : (read command : Command) → ◌≡◌ {A = Result Command WireErr} (Ok read) (Ok command) → opcode_for command ≡ opcode_for read
+same_opcode : (read command : Command) → ◌≡◌ {A = Result Command WireErr} (Ok read) (Ok command)
+    → opcode_for command ≡ opcode_for read
 same_opcode read command h = let is : read ≡ command = cc h in ap opcode_for (sym is)
 
-opcode_back : (opcode : Opcode) (bytes : List ℕ) (command : Command) → data_of opcode bytes ≡ Ok command → opcode_for command ≡ opcode
+opcode_back : (opcode : Opcode) (bytes : List ℕ) (command : Command) → data_of opcode bytes ≡ Ok command
+    → opcode_for command ≡ opcode
 unfolding data_of list_use_of cap_get_of query_of destroy_of
 opcode_back opcodes.ListQuery bytes command h = same_opcode ListQuery command h
 opcode_back opcodes.ListUse bytes command h = same_opcode _ command (long_enough (length bytes) 8 _ _ command h).1
@@ -128,14 +140,20 @@ opcode_back opcodes.Modify bytes command h = same_opcode _ command (after_step (
 opcode_back opcodes.Query bytes command h = same_opcode _ command (long_enough (length bytes) 16 _ _ command h).1
 opcode_back opcodes.Destroy bytes command h = same_opcode _ command (long_enough (length bytes) 8 _ _ command h).1
 
--- a create's or a modify's parts, where they are these
-parts_back : (make : ObjHead → ObjData → Command) (head : ObjHead) (object : ObjData) (bytes : List ℕ)
-    → ((x : ObjHead) (y : ObjData) → make x y ≡ make head object → ◌≡◌ {A = ObjHead × ObjData} (x, y) (head, object))
-    → (parts : ObjHead × ObjData) → head_and_object bytes ≡ Ok parts → make parts.0 parts.1 ≡ make head object
-    → head_and_object bytes ≡ Ok (head, object)
-parts_back make head object bytes apart parts read is = read ∙ ap (λ (p : ObjHead × ObjData). Ok p) (apart parts.0 parts.1 is)
+-- the parts of a create, and of a modify
+same_parts : {x head : ObjHead} {y object : ObjData} → x ≡ head → y ≡ object → ◌≡◌ {A = ObjHead × ObjData} (x, y) (head, object)
+same_parts p q = cc
 
-data_back : (command : Command) (bytes : List ℕ) → AreBytes bytes → HasLayout command → data_of (opcode_for command) bytes ≡ Ok command
+created : (parts : ObjHead × ObjData) (head : ObjHead) (object : ObjData) → Create parts.0 parts.1 ≡ Create head object
+    → ◌≡◌ {A = ObjHead × ObjData} parts (head, object)
+created parts head object h = same_parts (cc h) (cc h)
+
+modified : (parts : ObjHead × ObjData) (head : ObjHead) (object : ObjData) → Modify parts.0 parts.1 ≡ Modify head object
+    → ◌≡◌ {A = ObjHead × ObjData} parts (head, object)
+modified parts head object h = same_parts (cc h) (cc h)
+
+data_back : (command : Command) (bytes : List ℕ) → AreBytes bytes → HasLayout command
+    → data_of (opcode_for command) bytes ≡ Ok command
     → (fields : List Field) × IsDataLayout command fields × Begins bytes fields
 unfolding data_of
 data_back ListQuery bytes all has h = (data_fields ListQuery, refl, (bytes, refl))
@@ -149,17 +167,18 @@ data_back (CapSet cap) bytes all has h =
     (cap_head_fields (cap_id cap) ++ read.0, (read.0, read.1, refl), read.2)
 data_back (Create head object) bytes all has h =
     let step = after_step (head_and_object bytes) _ (Create head object) h in
-    let read = parts_back Create head object bytes (λ x y e. let p : x ≡ head = cc e in let q : y ≡ object = cc e in cc) step.0 step.1 (cc step.2) in
+    let read = step.1 ∙ ap (λ (p : ObjHead × ObjData). Ok p) (created step.0 head object (cc step.2)) in
     (head_fields head ++ object_fields object, refl, head_and_object_back head object bytes all has read)
 data_back (Modify head object) bytes all has h =
     let step = after_step (head_and_object bytes) _ (Modify head object) h in
-    let read = parts_back Modify head object bytes (λ x y e. let p : x ≡ head = cc e in let q : y ≡ object = cc e in cc) step.0 step.1 (cc step.2) in
+    let read = step.1 ∙ ap (λ (p : ObjHead × ObjData). Ok p) (modified step.0 head object (cc step.2)) in
     (head_fields head ++ object_fields object, refl, head_and_object_back head object bytes all has read)
 data_back (Query head) bytes all has h = (head_fields head, refl, query_back head bytes all h)
 data_back (Destroy head) bytes all has h = (bare_head_fields head, refl, destroy_back head bytes all h)
 
 -- what reads as a command is laid out as that command
-pub laid_out_from_read : (bytes : List ℕ) (command : Command) → AreBytes bytes → HasLayout command → command_of bytes ≡ Ok command
+pub laid_out_from_read : (bytes : List ℕ) (command : Command) → AreBytes bytes → HasLayout command
+    → command_of bytes ≡ Ok command
     → IsLaidOut bytes command
 unfolding command_of
 laid_out_from_read bytes command all has h =
@@ -168,15 +187,19 @@ laid_out_from_read bytes command all has h =
     let read : data_of (opcode_for command) (drop header_size bytes) ≡ Ok command
     = subst (λ (o : Opcode). data_of o (drop header_size bytes) ≡ Ok command) (sym same) step.2 in
     let header = header_back bytes (opcode_for command) all (step.1 ∙ ap (λ (o : Opcode). Ok o) (sym same)) in
-    let more = data_back command (drop header_size bytes) (AreBytes-drop bytes header_size all) has read in
-    (more.0, more.2.0, more.1, Spells-join bytes (header_fields (opcode_for command)) more.0 (drop header_size bytes) more.2.0 header more.2.1)
+    let rest = drop header_size bytes in
+    let more = data_back command rest (AreBytes-drop bytes header_size all) has read in
+    let fields = header_fields (opcode_for command) in
+    (more.0, more.2.0, more.1, Spells-join bytes fields more.0 rest more.2.0 header more.2.1)
 
 -- a command that was read has its opcode in the header
-opcode_from_read : (bytes : List ℕ) (command : Command) → command_of bytes ≡ Ok command → opcode_of bytes ≡ Some (code_of (opcode_for command))
+opcode_from_read : (bytes : List ℕ) (command : Command) → command_of bytes ≡ Ok command
+    → opcode_of bytes ≡ Some (code_of (opcode_for command))
 unfolding command_of
 opcode_from_read bytes command h =
     let step = after_step (header_of bytes) _ command h in
-    (sound_header bytes step.0 step.1).opcode_is ∙ ap (λ (o : Opcode). Some (code_of o)) (sym (opcode_back step.0 (drop header_size bytes) command step.2))
+    let same = opcode_back step.0 (drop header_size bytes) command step.2 in
+    (sound_header bytes step.0 step.1).opcode_is ∙ ap (λ (o : Opcode). Some (code_of o)) (sym same)
 
 pub opcode_if_read : (bytes : List ℕ) (read : Result Command WireErr) → read ≡ command_of bytes
     → IfOk read (λ command. opcode_of bytes ≡ Some (code_of (opcode_for command)))

@@ -55,7 +55,8 @@ mapped read f have need ends = record {
   whole = λ enough. let there = ends.whole enough in (f there.0, rw there.1 refl);
 }
 
-chosen : {A : Type 0} (test : Bool) (read other : Result A WireErr) (have need more : ℕ) → EndsAt read have need → EndsAt other have more
+chosen : {A : Type 0} (test : Bool) (read other : Result A WireErr) (have need more : ℕ) → EndsAt read have need
+    → EndsAt other have more
     → EndsAt (cond test read other) have (cond test need more)
 chosen true read other have need more this that = this
 chosen false read other have need more this that = that
@@ -82,7 +83,8 @@ list_end bytes =
     behind _ (length bytes) 8 (length (drop 8 bytes)) _ (length-drop 8 bytes)
     (mapped _ raw_list _ _ (entries_end (get_or bytes 0 0) (drop 8 bytes)))
 
-object_end : (type_code : ℕ) (bytes : List ℕ) → EndsAt (object_of type_code bytes) (length bytes) (object_size type_code bytes)
+object_end : (type_code : ℕ) (bytes : List ℕ)
+    → EndsAt (object_of type_code bytes) (length bytes) (object_size type_code bytes)
 unfolding object_of group_of classifier_of rule_of
 object_end type_code bytes =
     let group = fixed (objects.Group (le16_at bytes 0)) (length bytes) 2 in

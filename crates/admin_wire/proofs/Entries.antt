@@ -32,7 +32,8 @@ added (Good list) found = option_map_or
     (λ selector. cond (ltb (length list.items) 5) (Good (record { items = list.items ++ selector ∷ [] })) Odd) found Odd
 added Odd found = Odd
 
-one_more : (n : ℕ) (all : Bool) (found : Option SelectorParts) (selectors : List SelectorParts) → (all ≡ true → length selectors ≡ n)
+one_more : (n : ℕ) (all : Bool) (found : Option SelectorParts) (selectors : List SelectorParts)
+    → (all ≡ true → length selectors ≡ n)
     → cond (leb (n + 1) 5 && (all && (is_some found && true))) (Good (record { items = selectors ++ cons_option found [] })) Odd
     ≡ added (cond (leb n 5 && all) (Good (record { items = selectors })) Odd) found
 unfolding added
@@ -47,7 +48,8 @@ added_is (Good list) entry = refl
 added_is Odd entry = refl
 
 -- one more entry
-pub raw_list-push : (entries : List (List ℕ)) (entry : List ℕ) → raw_list (entries ++ entry ∷ []) ≡ with_entry (raw_list entries) entry
+pub raw_list-push : (entries : List (List ℕ)) (entry : List ℕ)
+    → raw_list (entries ++ entry ∷ []) ≡ with_entry (raw_list entries) entry
 unfolding raw_list
 raw_list-push entries entry =
     rw (length_push entries entry, list_all-append (λ x. is_some (selector_of x)) entries (entry ∷ []), filter_map-append selector_of entries (entry ∷ []))
@@ -96,7 +98,8 @@ list_from_none none bytes empty whole =
     rw (take_rest, none_read, le-ltb, good) (list_from-entries (get_or bytes 0 0) [] (drop 8 bytes))
 
 -- one entry is read, where entries are to come
-pub list_from_more : (list more : RawList) (count read len : ℕ) (bytes entry after : List ℕ) → read < count → Ok len ≡ whole_entry bytes
+pub list_from_more : (list more : RawList) (count read len : ℕ) (bytes entry after : List ℕ) → read < count
+    → Ok len ≡ whole_entry bytes
     → entry ≡ take len bytes → after ≡ drop len bytes → more ≡ with_entry list entry
     → list_from more (count - (read + 1)) after ≡ list_from list (count - read) bytes
 unfolding list_from
@@ -104,13 +107,15 @@ list_from_more list more count read len bytes entry after below whole front rest
     let e : count - read ≡ suc (count - (read + 1)) = omega arith in rw (e, ← whole, added, front, rest) refl
 
 -- the next entry is cut
-pub list_from_cut : (list : RawList) (count read : ℕ) (bytes : List ℕ) (fault : WireErr) → read < count → Err fault ≡ whole_entry bytes
+pub list_from_cut : (list : RawList) (count read : ℕ) (bytes : List ℕ) (fault : WireErr) → read < count
+    → Err fault ≡ whole_entry bytes
     → list_from list (count - read) bytes ≡ Err fault
 unfolding list_from
 list_from_cut list count read bytes fault below cut =
     let e : count - read ≡ suc (count - (read + 1)) = omega arith in rw (e, ← cut) refl
 
 -- no entry is to come
-pub list_from_all : (list : RawList) (count read : ℕ) (bytes : List ℕ) → count ≤ read → list_from list (count - read) bytes ≡ Ok list
+pub list_from_all : (list : RawList) (count read : ℕ) (bytes : List ℕ) → count ≤ read
+    → list_from list (count - read) bytes ≡ Ok list
 unfolding list_from
 list_from_all list count read bytes above = let e : count - read ≡ 0 = omega arith in rw e refl

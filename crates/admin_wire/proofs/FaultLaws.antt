@@ -1,10 +1,10 @@
 -- Each fault is the first of the bytes exactly where its condition holds.
-use Rattle.std.proofs.Common.{◌≡◌, ◌≢◌, ℕ, ◌<◌, ◌≤◌, ◌∙◌, sym, ap, subst, refl, arith, Bool, true, false, cond, ◌||◌, not, eqb, ltb, List, [], ◌∷◌, length, drop, Option, Some, None, is_some, Result, Ok, Err, ◌⊎◌, inl, inr, ⊎_elim, Contains}
+use Rattle.std.proofs.Common.{◌≡◌, ◌≢◌, ℕ, ◌<◌, ◌≤◌, ◌∙◌, sym, ap, subst, refl, Bool, true, false, cond, ◌||◌, not, eqb, ltb, List, [], ◌∷◌, length, drop, Option, Some, None, is_some, Result, Ok, Err, ◌⊎◌, inl, inr, ⊎_elim, Contains}
 use Rattle.std.specs.Cmp.{nat_eq_equiv}
 use Rattle.std.specs.List.{find, list_any}
 use Rattle.std.specs.Option.{ok_or}
-use Rattle.std.proofs.lemmas.Bool.{cases_lt, lt-ltb, le-ltb, ne_eqb}
-use Rattle.std.proofs.lemmas.Bool.Decides.{eqb_tells, nat_tests}
+use Rattle.std.proofs.lemmas.Bool.{eqb-true, cases_lt, lt-ltb, le-ltb, ne_eqb}
+use Rattle.std.proofs.lemmas.Bool.Decides.{eqb_tells}
 use Rattle.std.proofs.lemmas.Map.Views.{list_any-from_Contains, Contains-from_any}
 use Rattle.byte_numbers.specs.Numbers.{le16_at, le64_at}
 use Rattle.admin_wire.specs.declared.command.Command.{Command}
@@ -19,6 +19,7 @@ use Rattle.admin_wire.specs.Opcodes.{code_of, opcodes, opcode_codes, opcode_with
 use Rattle.admin_wire.specs.Wire.{data_of, command_of}
 use Rattle.admin_wire.proofs.Cuts.{data_end}
 use Rattle.admin_wire.proofs.HeaderLaws.{opcode_with-code_of, code_back, sound_header}
+use Rattle.admin_wire.proofs.Reading.{ok_or_ok}
 
 -- ---- none of the nine
 
@@ -39,9 +40,6 @@ not_true : (b : Bool) → (b ≡ true → ⊥) → b ≡ false
 not_true true h = absurd (h refl)
 not_true false h = refl
 
-same_number : (x y : ℕ) → eqb x y ≡ true → x ≡ y
-same_number x y h = grind (arith, nat_tests)
-
 known_any : (n : ℕ) → is_some (opcode_with n) ≡ list_any (eqb n) opcode_codes
 known_any n = is_some-find (λ opcode. eqb n (code_of opcode)) opcodes
 
@@ -54,22 +52,20 @@ none_of_nine n none = λ there.
 
 unknown_from_none : (n : ℕ) → (¬ Contains opcode_codes n) → opcode_with n ≡ None
 unknown_from_none n out =
-    is_none (opcode_with n) (known_any n ∙ not_true _ (λ any. out (Contains-from_any {eq = eqb} same_number n opcode_codes any)))
+    is_none (opcode_with n) (known_any n ∙ not_true _ (λ any. out (Contains-from_any {eq = eqb} eqb-true n opcode_codes any)))
 
 -- ---- from a fault to its condition
 
-split : {A B : Type 0} (read : Result A WireErr) (next : A → Result B WireErr) (fault : WireErr) → (read >>= next) ≡ Err fault
+split : {A B : Type 0} (read : Result A WireErr) (next : A → Result B WireErr) (fault : WireErr)
+    → (read >>= next) ≡ Err fault
     → (read ≡ Err fault) ⊎ ((x : A) × (read ≡ Ok x) × (next x ≡ Err fault))
 split (Ok x) next fault h = inr (x, refl, h)
 split (Err f) next fault h = let is : f ≡ fault = cc h in inl (ap Err is)
 
-missing : {A : Type 0} (found : Option A) (first fault : WireErr) → ok_or found first ≡ Err fault → (found ≡ None) × (first ≡ fault)
+missing : {A : Type 0} (found : Option A) (first fault : WireErr) → ok_or found first ≡ Err fault
+    → (found ≡ None) × (first ≡ fault)
 missing None first fault h = let is : first ≡ fault = cc h in (refl, is)
 missing (Some x) first fault h = absurd cc
-
-there : {A : Type 0} (found : Option A) (first : WireErr) (x : A) → ok_or found first ≡ Ok x → found ≡ Some x
-there None first x h = absurd cc
-there (Some y) first x h = let is : y ≡ x = cc h in ap Some is
 
 short_back : (m n : ℕ) → cond (ltb m header_size) None (Some n) ≡ None → m < header_size
 short_back m n h = ⊎_elim
@@ -112,7 +108,7 @@ known_fault bytes code fault read h = ⊎_elim
     let none = missing (opcode_with code) (Opcode code) fault unknown in
     subst (IsFault bytes) none.1 (read, none_of_nine code none.0))
     (λ (known : (o : Opcodes) × (ok_or (opcode_with code) (Opcode code) ≡ Ok o) × _).
-    let code_is = code_back code known.0 (there (opcode_with code) (Opcode code) known.0 known.1) in
+    let code_is = code_back code known.0 (ok_or_ok (opcode_with code) (Opcode code) known.0 known.1) in
     self_fault bytes known.0 fault (read ∙ ap Some code_is) known.2)
     (split (ok_or (opcode_with code) (Opcode code)) _ fault h)
 
@@ -123,7 +119,7 @@ header_fault bytes fault h = ⊎_elim
     let none = missing (opcode_of bytes) ShortHeader fault short in
     subst (IsFault bytes) none.1 (no_header bytes none.0))
     (λ (read : (code : ℕ) × (ok_or (opcode_of bytes) ShortHeader ≡ Ok code) × _).
-    known_fault bytes read.0 fault (there (opcode_of bytes) ShortHeader read.0 read.1) read.2)
+    known_fault bytes read.0 fault (ok_or_ok (opcode_of bytes) ShortHeader read.0 read.1) read.2)
     (split (ok_or (opcode_of bytes) ShortHeader) _ fault h)
 
 data_fault : (bytes : List ℕ) (opcode : Opcodes) (fault : WireErr) → header_of bytes ≡ Ok opcode

@@ -1,8 +1,7 @@
 -- A header is sound exactly where it is laid out.
-use Rattle.std.proofs.Common.{◌≡◌, ℕ, ◌<◌, ◌≤◌, ◌∙◌, ap, refl, arith, true, cond, eqb, ltb, List, length, drop, Some, None, Ok, ⊎_elim}
+use Rattle.std.proofs.Common.{◌≡◌, ℕ, ◌<◌, ◌≤◌, ◌∙◌, ap, refl, arith, cond, eqb, ltb, List, length, drop, Some, None, Ok, ⊎_elim}
 use Rattle.std.specs.Option.{ok_or}
-use Rattle.std.proofs.lemmas.Bool.{cases_lt, lt-ltb, le-ltb}
-use Rattle.std.proofs.lemmas.Bool.Decides.{nat_tests}
+use Rattle.std.proofs.lemmas.Bool.{eqb-true, cases_lt, lt-ltb, le-ltb}
 use Rattle.byte_numbers.specs.Numbers.{le16_at, le64_at}
 use Rattle.byte_numbers.proofs.NumberLaws.{AreBytes}
 use Rattle.admin_wire.specs.declared.error.WireErr.TheVariants as faults
@@ -30,11 +29,8 @@ opcode_with-code_of Modify = refl
 opcode_with-code_of Query = refl
 opcode_with-code_of Destroy = refl
 
-same_number : (m n : ℕ) → eqb m n ≡ true → m ≡ n
-same_number m n h = grind (arith, nat_tests)
-
 pub code_back : (code : ℕ) (opcode : Opcode) → opcode_with code ≡ Some opcode → code ≡ code_of opcode
-code_back code opcode h = same_number code (code_of opcode) (find_passes (λ o. eqb code (code_of o)) opcodes opcode h)
+code_back code opcode h = eqb-true code (code_of opcode) (find_passes (λ o. eqb code (code_of o)) opcodes opcode h)
 
 whole_back : (m n code : ℕ) → cond (ltb m header_size) None (Some n) ≡ Some code → (header_size ≤ m) × (n ≡ code)
 whole_back m n code h = ⊎_elim
@@ -43,7 +39,8 @@ whole_back m n code h = ⊎_elim
     (cases_lt m header_size)
 
 -- the opcode's number, where there is one
-pub opcode_back : (bytes : List ℕ) (code : ℕ) → opcode_of bytes ≡ Some code → (header_size ≤ length bytes) × (le16_at bytes 0 ≡ code)
+pub opcode_back : (bytes : List ℕ) (code : ℕ) → opcode_of bytes ≡ Some code
+    → (header_size ≤ length bytes) × (le16_at bytes 0 ≡ code)
 unfolding opcode_of
 opcode_back bytes code h = whole_back (length bytes) (le16_at bytes 0) code h
 

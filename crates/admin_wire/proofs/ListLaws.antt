@@ -13,7 +13,8 @@ use Rattle.ff_headers.specs.SelectorParts.{SelectorParts, IsWhole, selector_with
 use Rattle.admin_wire.specs.declared.command.RawList.{RawList}
 use Rattle.admin_wire.specs.declared.command.RawList.TheVariants as lists
 use Rattle.admin_wire.specs.Fields.{Field, Spells}
-use Rattle.admin_wire.specs.Layouts.{selector_fields, list_fields, IsGoodList}
+use Rattle.admin_wire.specs.LaidOut.{IsGoodList}
+use Rattle.admin_wire.specs.Layouts.{selector_fields, list_fields}
 use Rattle.admin_wire.specs.Lists.{whole_entry, entries_of, selector_of, raw_list, list_of}
 use Rattle.admin_wire.proofs.Reading.{long_enough, after_step, Begins}
 use Rattle.admin_wire.proofs.Spelled.{Spelled, spell_8, spell_reserved, spell_raw}
@@ -28,7 +29,8 @@ kind_of_code-kind_code Ipv6 = refl
 kind_of_code-kind_code Tcp = refl
 kind_of_code-kind_code Udp = refl
 
-selector_from : (s : SelectorParts) (entry : List ℕ) → IsWhole s → get_or entry 0 0 ≡ kind_code s.kind → get_or entry 1 0 ≡ s.flags
+selector_from : (s : SelectorParts) (entry : List ℕ) → IsWhole s → get_or entry 0 0 ≡ kind_code s.kind
+    → get_or entry 1 0 ≡ s.flags
     → get_or entry 4 0 ≡ length s.mask → drop 8 entry ≡ s.mask → selector_of entry ≡ Some s
 unfolding selector_of
 selector_from s entry whole code flags len mask =
@@ -63,7 +65,8 @@ record AreEntries (list : List SelectorParts) (bytes : List ℕ) : Type 0 where
   pub selectors : filter_map selector_of entries ≡ list
 
 one_more : (s : SelectorParts) (list : List SelectorParts) (bytes : List ℕ) → whole_entry bytes ≡ Ok (8 + length s.mask)
-    → selector_of (take (8 + length s.mask) bytes) ≡ Some s → AreEntries list (drop (8 + length s.mask) bytes) → AreEntries (s ∷ list) bytes
+    → selector_of (take (8 + length s.mask) bytes) ≡ Some s → AreEntries list (drop (8 + length s.mask) bytes)
+    → AreEntries (s ∷ list) bytes
 unfolding entries_of
 one_more s list bytes whole is more = record {
   entries = take (8 + length s.mask) bytes ∷ more.entries;
@@ -73,7 +76,8 @@ one_more s list bytes whole is more = record {
   selectors = rw (is, more.selectors) refl;
 }
 
-entries_spelled : (list : List SelectorParts) (bytes rest : List ℕ) → All IsWhole list → Spells bytes (flat_map selector_fields list) rest
+entries_spelled : (list : List SelectorParts) (bytes rest : List ℕ) → All IsWhole list
+    → Spells bytes (flat_map selector_fields list) rest
     → AreEntries list bytes
 unfolding entries_of
 entries_spelled [] bytes rest whole s = record { entries = []; cut = refl; count = refl; known = refl; selectors = refl }
@@ -88,7 +92,8 @@ unfolding raw_list
 raw_list-of list bytes few read = rw (read.count, le-leb (length list) 5 few, read.known, read.selectors) refl
 
 good_list_spelled : (list : List SelectorParts) (bytes rest : List ℕ) → length list ≤ 5 → All IsWhole list
-    → Spells bytes (list_fields (lists.Good (record { items = list }))) rest → list_of bytes ≡ Ok (lists.Good (record { items = list }))
+    → Spells bytes (list_fields (lists.Good (record { items = list }))) rest
+    → list_of bytes ≡ Ok (lists.Good (record { items = list }))
 unfolding list_of
 good_list_spelled list bytes rest few whole s =
     let count = number_8 (Left-start bytes (list_fields (lists.Good (record { items = list }))) rest s) in
@@ -96,7 +101,8 @@ good_list_spelled list bytes rest few whole s =
     let read = entries_spelled list (drop 8 bytes) rest whole (subst (λ xs. Spells xs (flat_map selector_fields list) rest) (sym l.here.left) l.spells) in
     rw (le-ltb (length bytes) 8 (omega (arith, l.here.count)), count.0, read.cut, raw_list-of list (drop 8 bytes) few read) refl
 
-pub list_spelled : (list : RawList) (bytes rest : List ℕ) → IsGoodList list → Spells bytes (list_fields list) rest → list_of bytes ≡ Ok list
+pub list_spelled : (list : RawList) (bytes rest : List ℕ) → IsGoodList list → Spells bytes (list_fields list) rest
+    → list_of bytes ≡ Ok list
 list_spelled (lists.Good list) bytes rest good s = good_list_spelled list.items bytes rest good.0 good.1 s
 list_spelled lists.Odd bytes rest good s = absurd good
 
@@ -170,15 +176,19 @@ record SpellList (bytes : List ℕ) (count : ℕ) (selectors : List SelectorPart
   pub spells : Spells bytes (flat_map selector_fields selectors) end
   pub counted : length selectors ≡ count
 
-whole_back : (bytes : List ℕ) (len : ℕ) → whole_entry bytes ≡ Ok len → (8 + get_or bytes 4 0 ≤ length bytes) × (8 + get_or bytes 4 0 ≡ len)
+whole_back : (bytes : List ℕ) (len : ℕ) → whole_entry bytes ≡ Ok len
+    → (8 + get_or bytes 4 0 ≤ length bytes) × (8 + get_or bytes 4 0 ≡ len)
 unfolding whole_entry
 whole_back bytes len h =
     let whole = long_enough (length bytes) (8 + get_or bytes 4 0) _ _ len h in
     let is : 8 + get_or bytes 4 0 ≡ len = cc whole.1 in (whole.0, is)
 
-first_back : (bytes : List ℕ) (count : ℕ) (selectors : List SelectorParts) (found : Option SelectorParts) → AreBytes bytes
-    → 8 + get_or bytes 4 0 ≤ length bytes → selector_of (take (8 + get_or bytes 4 0) bytes) ≡ found → is_some found ≡ true
-    → SpellList (drop (8 + get_or bytes 4 0) bytes) count selectors → SpellList bytes (suc count) (cons_option found selectors)
+first_back : (bytes : List ℕ) (count : ℕ) (selectors : List SelectorParts) (found : Option SelectorParts)
+    → AreBytes bytes
+    → 8 + get_or bytes 4 0 ≤ length bytes → selector_of (take (8 + get_or bytes 4 0) bytes) ≡ found
+    → is_some found ≡ true
+    → SpellList (drop (8 + get_or bytes 4 0) bytes) count selectors
+    → SpellList bytes (suc count) (cons_option found selectors)
 first_back bytes count selectors None all whole is some more = absurd cc
 first_back bytes count selectors (Some s) all whole is some more = record {
   end = more.end;
@@ -186,8 +196,10 @@ first_back bytes count selectors (Some s) all whole is some more = record {
   counted = ap suc more.counted;
 }
 
-entries_back : (count : ℕ) (bytes : List ℕ) (entries : List (List ℕ)) → AreBytes bytes → entries_of count bytes ≡ Ok entries
-    → list_all (λ entry. is_some (selector_of entry)) entries ≡ true → SpellList bytes count (filter_map selector_of entries)
+entries_back : (count : ℕ) (bytes : List ℕ) (entries : List (List ℕ)) → AreBytes bytes
+    → entries_of count bytes ≡ Ok entries
+    → list_all (λ entry. is_some (selector_of entry)) entries ≡ true
+    → SpellList bytes count (filter_map selector_of entries)
 unfolding entries_of
 entries_back zero bytes entries all h known =
     let none : [] ≡ entries = cc h in
@@ -211,7 +223,8 @@ good_test : (test : Bool) (list : RawList) → IsGoodList (cond test list lists.
 good_test true list good = refl
 good_test false list good = absurd good
 
-raw_list_back : (entries : List (List ℕ)) → IsGoodList (raw_list entries) → (list_all (λ entry. is_some (selector_of entry)) entries ≡ true)
+raw_list_back : (entries : List (List ℕ)) → IsGoodList (raw_list entries)
+    → (list_all (λ entry. is_some (selector_of entry)) entries ≡ true)
     × (raw_list entries ≡ lists.Good (record { items = filter_map selector_of entries }))
 unfolding raw_list
 raw_list_back entries good =
@@ -219,7 +232,8 @@ raw_list_back entries good =
     let parts = and_parts (leb (length entries) 5) (list_all (λ entry. is_some (selector_of entry)) entries) test in
     (parts.1, rw (parts.0, parts.1) refl)
 
-pub list_back : (list : RawList) (bytes : List ℕ) → AreBytes bytes → IsGoodList list → list_of bytes ≡ Ok list → Begins bytes (list_fields list)
+pub list_back : (list : RawList) (bytes : List ℕ) → AreBytes bytes → IsGoodList list → list_of bytes ≡ Ok list
+    → Begins bytes (list_fields list)
 unfolding list_of
 list_back list bytes all good h =
     let whole = long_enough (length bytes) 8 _ _ list h in

@@ -11,7 +11,8 @@ use Rattle.admin_wire.specs.declared.command.RawKey.TheVariants as keys
 use Rattle.admin_wire.specs.declared.command.RawList.{RawList}
 use Rattle.admin_wire.specs.declared.command.RawRule.{RawRule}
 use Rattle.admin_wire.specs.Fields.{Spells}
-use Rattle.admin_wire.specs.Layouts.{head_fields, bare_head_fields, list_fields, rule_fields, key_bytes, object_fields, HasObjectLayout, IsGoodList, IsGoodKey}
+use Rattle.admin_wire.specs.LaidOut.{HasObjectLayout, IsGoodList, IsGoodKey}
+use Rattle.admin_wire.specs.Layouts.{head_fields, bare_head_fields, list_fields, rule_fields, key_bytes, object_fields}
 use Rattle.admin_wire.specs.Lists.{list_of}
 use Rattle.admin_wire.specs.Objects.{head_of, bare_head_of, group_of, classifier_of, raw_key, rule_of, object_of, head_and_object}
 use Rattle.admin_wire.proofs.ListLaws.{list_spelled, list_back}
@@ -22,7 +23,8 @@ use Rattle.admin_wire.proofs.Walk.{At, Left-start, number_8, number_16, number_3
 -- ---- what is laid out reads so
 
 -- a head with its flags, and without
-pub head_spelled : (head : ObjHead) (bytes mid : List ℕ) → Spells bytes (head_fields head) mid → (head_of bytes ≡ head) × At bytes 16 mid
+pub head_spelled : (head : ObjHead) (bytes mid : List ℕ) → Spells bytes (head_fields head) mid
+    → (head_of bytes ≡ head) × At bytes 16 mid
 unfolding head_of
 head_spelled head bytes mid s =
     let code = number_16 (Left-start bytes (head_fields head) mid s) in
@@ -30,7 +32,8 @@ head_spelled head bytes mid s =
     let flags = number_64 id.1 in
     (rw (code.0, id.0, flags.0) refl, ended flags.1)
 
-pub bare_head_spelled : (head : ObjHead) (bytes mid : List ℕ) → head.flags ≡ 0 → Spells bytes (bare_head_fields head) mid
+pub bare_head_spelled : (head : ObjHead) (bytes mid : List ℕ) → head.flags ≡ 0
+    → Spells bytes (bare_head_fields head) mid
     → (bare_head_of bytes ≡ head) × At bytes 8 mid
 unfolding bare_head_of
 bare_head_spelled head bytes mid none s =
@@ -46,7 +49,8 @@ group_spelled priority bytes rest s =
     let here = ended read.1 in
     rw (le-ltb (length bytes) 2 (omega arith), read.0) refl
 
-rule_spelled : (rule : RawRule) (key : List ℕ) (bytes rest : List ℕ) → rule.key ≡ keys.Good (record { items = key }) → length key ≤ 74
+rule_spelled : (rule : RawRule) (key : List ℕ) (bytes rest : List ℕ) → rule.key ≡ keys.Good (record { items = key })
+    → length key ≤ 74
     → Spells bytes (rule_fields rule key) rest → rule_of bytes ≡ Ok (Rule rule)
 unfolding rule_of raw_key
 rule_spelled rule key bytes rest good short s =
@@ -90,7 +94,8 @@ object_spelled type_code (Rule rule) bytes rest is s = rw is.0 (rule_with rule r
 object_spelled type_code Other bytes rest is s =
     rw (ne_eqb type_code 0x200 is.0, ne_eqb type_code 0x201 is.1, ne_eqb type_code 0x202 is.2) refl
 
-pub head_and_object_spelled : (head : ObjHead) (object : ObjData) (bytes rest : List ℕ) → HasObjectLayout head.type_code object
+pub head_and_object_spelled : (head : ObjHead) (object : ObjData) (bytes rest : List ℕ)
+    → HasObjectLayout head.type_code object
     → Spells bytes (head_fields head ++ object_fields object) rest → head_and_object bytes ≡ Ok (head, object)
 unfolding head_and_object
 head_and_object_spelled head object bytes rest is s =
@@ -100,7 +105,8 @@ head_and_object_spelled head object bytes rest is s =
 
 -- ---- what reads so is laid out
 
-pub head_back : (bytes : List ℕ) → AreBytes bytes → 16 ≤ length bytes → Spells bytes (head_fields (head_of bytes)) (drop 16 bytes)
+pub head_back : (bytes : List ℕ) → AreBytes bytes → 16 ≤ length bytes
+    → Spells bytes (head_fields (head_of bytes)) (drop 16 bytes)
 unfolding head_of
 head_back bytes all whole =
     let read : Spelled bytes 0 (head_fields (head_of bytes)) (drop 16 bytes)
@@ -108,7 +114,8 @@ head_back bytes all whole =
     (spell_64 all (omega arith) refl spell_end))) in
     read.spells
 
-pub bare_head_back : (bytes : List ℕ) → AreBytes bytes → 8 ≤ length bytes → Spells bytes (bare_head_fields (bare_head_of bytes)) (drop 8 bytes)
+pub bare_head_back : (bytes : List ℕ) → AreBytes bytes → 8 ≤ length bytes
+    → Spells bytes (bare_head_fields (bare_head_of bytes)) (drop 8 bytes)
 unfolding bare_head_of
 bare_head_back bytes all whole =
     let read : Spelled bytes 0 (bare_head_fields (bare_head_of bytes)) (drop 8 bytes)
@@ -132,7 +139,8 @@ key_back key good = ⊎_elim
     (cases_lt 74 (length key))
 
 rule_fields_back : (rule : RawRule) (key bytes : List ℕ) → AreBytes bytes → 16 + length key ≤ length bytes
-    → le32_at bytes 0 ≡ rule.group → le32_at bytes 4 ≡ rule.classifier → get_or bytes 8 0 ≡ rule.priority → get_or bytes 9 0 ≡ length key
+    → le32_at bytes 0 ≡ rule.group → le32_at bytes 4 ≡ rule.classifier → get_or bytes 8 0 ≡ rule.priority
+    → get_or bytes 9 0 ≡ length key
     → get_or bytes 10 0 ≡ rule.action → le16_at bytes 12 ≡ rule.vq → take (length key) (drop 16 bytes) ≡ key
     → Spells bytes (rule_fields rule key) (drop (16 + length key) bytes)
 rule_fields_back rule key bytes all whole group classifier priority len action vq given =
@@ -166,7 +174,8 @@ rule_back rule bytes all good h =
       subst (λ k. Spells bytes (rule_fields read k) (drop (16 + length key) bytes)) (sym (key_back key known)) spelled,
     )
 
-classifier_back : (list : RawList) (bytes : List ℕ) → AreBytes bytes → IsGoodList list → classifier_of bytes ≡ Ok (Classifier list)
+classifier_back : (list : RawList) (bytes : List ℕ) → AreBytes bytes → IsGoodList list
+    → classifier_of bytes ≡ Ok (Classifier list)
     → Begins bytes (list_fields list)
 unfolding classifier_of
 classifier_back list bytes all good h =
@@ -185,7 +194,8 @@ object_back type_code (Rule rule) bytes all is h =
     rule_back rule bytes all is.1 (subst (λ t. object_of t bytes ≡ Ok (Rule rule)) is.0 h)
 object_back type_code Other bytes all is h = (bytes, refl)
 
-pub head_and_object_back : (head : ObjHead) (object : ObjData) (bytes : List ℕ) → AreBytes bytes → HasObjectLayout head.type_code object
+pub head_and_object_back : (head : ObjHead) (object : ObjData) (bytes : List ℕ) → AreBytes bytes
+    → HasObjectLayout head.type_code object
     → head_and_object bytes ≡ Ok (head, object) → Begins bytes (head_fields head ++ object_fields object)
 unfolding head_and_object
 head_and_object_back head object bytes all is h =

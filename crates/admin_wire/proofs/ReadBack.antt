@@ -5,10 +5,12 @@ use Rattle.admin_wire.specs.declared.command.CapData.{CapData}
 use Rattle.admin_wire.specs.declared.command.CapData.TheVariants as caps
 use Rattle.admin_wire.specs.declared.command.Command.{Command}
 use Rattle.admin_wire.specs.declared.command.Command.TheVariants.{ListQuery, ListUse, CapIds, CapGet, CapSet, Create, Modify, Query, Destroy}
+use Rattle.admin_wire.specs.declared.command.RawActions.{RawActions}
 use Rattle.admin_wire.specs.declared.opcode.Opcode.{Opcode}
 use Rattle.admin_wire.specs.Capabilities.{raw_actions}
 use Rattle.admin_wire.specs.Fields.{Field, number, reserved, raw, Spells, written, AreFitting, Writes}
-use Rattle.admin_wire.specs.Layouts.{opcode_for, header_fields, action_bytes, cap_fields, data_fields, command_fields, command_bytes, HasCapBytes, HasBytes, HasLayout, IsCapLayout, IsDataLayout}
+use Rattle.admin_wire.specs.LaidOut.{HasCapBytes, HasBytes, HasLayout, IsCapLayout, IsDataLayout}
+use Rattle.admin_wire.specs.Layouts.{opcode_for, header_fields, action_bytes, cap_fields, data_fields, command_fields, command_bytes}
 use Rattle.admin_wire.specs.Wire.{command_of}
 use Rattle.admin_wire.proofs.CommandLaws.{command_laid_out}
 
@@ -22,7 +24,7 @@ written_spells (raw given ∷ fields) fits = (written fields, refl, written_spel
 
 -- the action bytes that are written are those that are set
 actions_back : (drops queues other : Bool) → other ≡ false
-    → raw_actions (action_bytes (record { drop = drops; queue = queues; other = other })) ≡ record { drop = drops; queue = queues; other = other }
+    → let actions : RawActions = record { drop = drops; queue = queues; other = other } in raw_actions (action_bytes actions) ≡ actions
 unfolding raw_actions
 actions_back true true other none = rw none refl
 actions_back true false other none = rw none refl
@@ -48,7 +50,8 @@ data_layout (Destroy head) has = refl
 
 -- what is written of a command, header first, reads as it
 pub written_reads : (none out : List ℕ) (opcode : Opcode) (command : Command) → none ≡ [] → opcode ≡ opcode_for command
-    → Writes none (header_fields opcode ++ data_fields command) out → HasBytes command → HasLayout command → command_of out ≡ Ok command
+    → Writes none (header_fields opcode ++ data_fields command) out → HasBytes command → HasLayout command
+    → command_of out ≡ Ok command
 written_reads none out opcode command empty is writes known has =
     let whole : Writes [] (command_fields command) out
     = subst (λ (xs : List ℕ). Writes xs (command_fields command) out) empty

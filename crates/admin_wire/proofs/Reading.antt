@@ -8,14 +8,16 @@ use Rattle.admin_wire.specs.declared.error.WireErr.{WireErr}
 use Rattle.admin_wire.specs.Faults.{◌>>=◌}
 use Rattle.admin_wire.specs.Fields.{Field, Spells}
 
-pub long_enough : {A : Type 0} (m n : ℕ) (fault : WireErr) (read : Result A WireErr) (x : A) → cond (ltb m n) (Err fault) read ≡ Ok x
+pub long_enough : {A : Type 0} (m n : ℕ) (fault : WireErr) (read : Result A WireErr) (x : A)
+    → cond (ltb m n) (Err fault) read ≡ Ok x
     → (n ≤ m) × (read ≡ Ok x)
 long_enough m n fault read x h = ⊎_elim
     (λ (short : m < n). let bad : Err fault ≡ Ok x = subst (λ b. cond b (Err fault) read ≡ Ok x) (lt-ltb m n short) h in absurd cc)
     (λ (enough : n ≤ m). (enough, subst (λ b. cond b (Err fault) read ≡ Ok x) (le-ltb m n enough) h))
     (cases_lt m n)
 
-pub equal_numbers : {A : Type 0} (m n : ℕ) (fault : WireErr) (read : Result A WireErr) (x : A) → cond (not (eqb m n)) (Err fault) read ≡ Ok x
+pub equal_numbers : {A : Type 0} (m n : ℕ) (fault : WireErr) (read : Result A WireErr) (x : A)
+    → cond (not (eqb m n)) (Err fault) read ≡ Ok x
     → (m ≡ n) × (read ≡ Ok x)
 equal_numbers m n fault read x h = ⊎_elim
     (λ (same : (eqb m n ≡ true) × (m ≡ n)). (same.1, subst (λ b. cond (not b) (Err fault) read ≡ Ok x) same.0 h))
@@ -32,7 +34,8 @@ pub ok_or_ok : {A : Type 0} (found : Option A) (fault : WireErr) (x : A) → ok_
 ok_or_ok None fault x h = absurd cc
 ok_or_ok (Some y) fault x h = let e : y ≡ x = cc h in cc
 
-found_passes : {A : Type 0} (b : Bool) (y x : A) (rest : Option A) (test : A → Bool) → test y ≡ b → (rest ≡ Some x → test x ≡ true)
+found_passes : {A : Type 0} (b : Bool) (y x : A) (rest : Option A) (test : A → Bool) → test y ≡ b
+    → (rest ≡ Some x → test x ≡ true)
     → cond b (Some y) rest ≡ Some x → test x ≡ true
 found_passes true y x rest test is others h = let e : y ≡ x = cc in subst (λ z. test z ≡ true) e is
 found_passes false y x rest test is others h = others h

@@ -17,7 +17,8 @@ use Rattle.admin_wire.specs.declared.command.RawKey.TheVariants as keys
 use Rattle.admin_wire.specs.declared.command.RawList.{RawList}
 use Rattle.admin_wire.specs.declared.command.RawList.TheVariants as lists
 use Rattle.admin_wire.specs.Fields.{written}
-use Rattle.admin_wire.specs.Layouts.{selector_fields, list_fields, key_bytes, object_fields, action_bytes, cap_fields, data_fields, command_bytes, IsGoodList, IsGoodKey, HasObjectLayout, HasCapLayout, HasLayout, IsDistinctList, IsDistinctObject, IsDistinctCap, HasDistinctTypes}
+use Rattle.admin_wire.specs.LaidOut.{IsGoodList, IsGoodKey, HasObjectLayout, HasCapLayout, HasLayout, IsDistinctList, IsDistinctObject, IsDistinctCap, HasDistinctTypes}
+use Rattle.admin_wire.specs.Layouts.{selector_fields, list_fields, key_bytes, object_fields, action_bytes, cap_fields, data_fields, command_bytes}
 use Rattle.admin_wire.proofs.Writing.{written-append, entry-length}
 
 -- ---- selectors of distinct types
@@ -69,7 +70,8 @@ more_room : (s : SelectorParts) (list : List SelectorParts) → room_with s.kind
 unfolding room room_with room_of
 more_room s list = refl
 
-none_of : (code : ℕ) (codes : List ℕ) → AllByRecursion (λ y. nat_eq code y ≡ false) codes → list_any (nat_eq code) codes ≡ false
+none_of : (code : ℕ) (codes : List ℕ) → AllByRecursion (λ y. nat_eq code y ≡ false) codes
+    → list_any (nat_eq code) codes ≡ false
 none_of code [] all = refl
 none_of code (y ∷ codes) all = rw all.0 (none_of code codes all.1)
 
@@ -104,7 +106,8 @@ object_fits type_code (Rule rule) has distinct =
     omega (arith, key_fits rule.key has.1, ap length (append-nil (key_bytes rule.key)))
 object_fits type_code Other has distinct = omega arith
 
-few_actions : (drops queues other : Bool) → length (action_bytes (record { drop = drops; queue = queues; other = other })) ≤ 2
+few_actions : (drops queues other : Bool)
+    → length (action_bytes (record { drop = drops; queue = queues; other = other })) ≤ 2
 few_actions true true other = omega arith
 few_actions true false other = omega arith
 few_actions false true other = omega arith
@@ -117,7 +120,8 @@ cap_fits (caps.Actions actions) has distinct =
     omega (arith, few_actions actions.drop actions.queue actions.other, ap length (append-nil (action_bytes actions)))
 cap_fits (caps.Other id) has distinct = omega arith
 
-data_fits : (command : Command) → HasLayout command → HasDistinctTypes command → length (written (data_fields command)) ≤ 166
+data_fits : (command : Command) → HasLayout command → HasDistinctTypes command
+    → length (written (data_fields command)) ≤ 166
 data_fits ListQuery has distinct = omega arith
 data_fits (ListUse bitmap) has distinct = omega arith
 data_fits CapIds has distinct = omega arith
@@ -129,5 +133,6 @@ data_fits (Query head) has distinct = omega arith
 data_fits (Destroy head) has distinct = omega arith
 
 -- 24 bytes of header, and at most 166 of data
-pub command_fits : (command : Command) → HasLayout command → HasDistinctTypes command → length (command_bytes command) ≤ 190
+pub command_fits : (command : Command) → HasLayout command → HasDistinctTypes command
+    → length (command_bytes command) ≤ 190
 command_fits command has distinct = omega (arith, data_fits command has distinct)

@@ -17,7 +17,8 @@ pub record Spelled (bytes : List ℕ) (place : ℕ) (fields : List Field) (end :
 pub spell_end : {bytes : List ℕ} {place : ℕ} → Spelled bytes place [] (drop place bytes)
 spell_end {bytes} {place} = record { spells = refl }
 
-pub spell_16 : {bytes : List ℕ} {place n : ℕ} {fields : List Field} {end : List ℕ} → AreBytes bytes → place + 2 ≤ length bytes
+pub spell_16 : {bytes : List ℕ} {place n : ℕ} {fields : List Field} {end : List ℕ} → AreBytes bytes
+    → place + 2 ≤ length bytes
     → le16_at bytes place ≡ n → Spelled bytes (place + 2) fields end → Spelled bytes place (number w16 n ∷ fields) end
 spell_16 {bytes} {place} {n} all fits is more = record {
   spells = (
@@ -31,7 +32,8 @@ spell_16 {bytes} {place} {n} all fits is more = record {
   );
 }
 
-pub spell_32 : {bytes : List ℕ} {place n : ℕ} {fields : List Field} {end : List ℕ} → AreBytes bytes → place + 4 ≤ length bytes
+pub spell_32 : {bytes : List ℕ} {place n : ℕ} {fields : List Field} {end : List ℕ} → AreBytes bytes
+    → place + 4 ≤ length bytes
     → le32_at bytes place ≡ n → Spelled bytes (place + 4) fields end → Spelled bytes place (number w32 n ∷ fields) end
 spell_32 {bytes} {place} {n} all fits is more = record {
   spells = (
@@ -45,7 +47,8 @@ spell_32 {bytes} {place} {n} all fits is more = record {
   );
 }
 
-pub spell_64 : {bytes : List ℕ} {place n : ℕ} {fields : List Field} {end : List ℕ} → AreBytes bytes → place + 8 ≤ length bytes
+pub spell_64 : {bytes : List ℕ} {place n : ℕ} {fields : List Field} {end : List ℕ} → AreBytes bytes
+    → place + 8 ≤ length bytes
     → le64_at bytes place ≡ n → Spelled bytes (place + 8) fields end → Spelled bytes place (number w64 n ∷ fields) end
 spell_64 {bytes} {place} {n} all fits is more = record {
   spells = (
@@ -59,7 +62,8 @@ spell_64 {bytes} {place} {n} all fits is more = record {
   );
 }
 
-pub spell_8 : {bytes : List ℕ} {place n : ℕ} {fields : List Field} {end : List ℕ} → AreBytes bytes → place + 1 ≤ length bytes
+pub spell_8 : {bytes : List ℕ} {place n : ℕ} {fields : List Field} {end : List ℕ} → AreBytes bytes
+    → place + 1 ≤ length bytes
     → get_or bytes place 0 ≡ n → Spelled bytes (place + 1) fields end → Spelled bytes place (number w8 n ∷ fields) end
 spell_8 {bytes} {place} {n} all fits is more =
     let small : n < 256 = subst (λ m. m < 256) is (all.below place) in
@@ -75,7 +79,8 @@ spell_8 {bytes} {place} {n} all fits is more =
       );
     }
 
-pub spell_reserved : {bytes : List ℕ} {place count : ℕ} {fields : List Field} {end : List ℕ} → place + count ≤ length bytes
+pub spell_reserved : {bytes : List ℕ} {place count : ℕ} {fields : List Field} {end : List ℕ}
+    → place + count ≤ length bytes
     → Spelled bytes (place + count) fields end → Spelled bytes place (reserved count ∷ fields) end
 spell_reserved {bytes} {place} {count} fits more = record {
   spells = (take count (drop place bytes), drop (place + count) bytes, piece-length bytes place count fits, parts bytes place count, more.spells);
@@ -93,7 +98,8 @@ spell_raw {bytes} {place} {given} is more = record {
 }
 
 -- the spelling of one list of fields, and then of another
-pub Spells-join : (bytes : List ℕ) (fields more : List Field) (mid rest : List ℕ) → Spells bytes fields mid → Spells mid more rest
+pub Spells-join : (bytes : List ℕ) (fields more : List Field) (mid rest : List ℕ) → Spells bytes fields mid
+    → Spells mid more rest
     → Spells bytes (fields ++ more) rest
 Spells-join bytes [] more mid rest s t = subst (λ xs. Spells xs more rest) (sym s) t
 Spells-join bytes (number width n ∷ fields) more mid rest s t =

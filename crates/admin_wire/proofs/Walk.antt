@@ -15,7 +15,8 @@ pub At-start : (bytes : List ℕ) → At bytes 0 bytes
 At-start bytes = record { left = refl; count = omega arith }
 
 -- past a front of so many bytes
-pub At-more : (bytes : List ℕ) (place size next : ℕ) (front rest after : List ℕ) → At bytes place rest → rest ≡ front ++ after
+pub At-more : (bytes : List ℕ) (place size next : ℕ) (front rest after : List ℕ) → At bytes place rest
+    → rest ≡ front ++ after
     → length front ≡ size → place + size ≡ next → At bytes next after
 At-more bytes place size next front rest after here split sized moved =
     let on : drop size (drop place bytes) ≡ after = rw (here.left, split) (drop_at front after size sized) in
@@ -24,19 +25,23 @@ At-more bytes place size next front rest after here split sized moved =
       count = omega (arith, here.count, ap length split, length-append front after);
     }
 
-pub le16-at : (bytes rest after : List ℕ) (place n : ℕ) → At bytes place rest → n < 2 ^ 16 → rest ≡ to_le_bytes w16 n ++ after
+pub le16-at : (bytes rest after : List ℕ) (place n : ℕ) → At bytes place rest → n < 2 ^ 16
+    → rest ≡ to_le_bytes w16 n ++ after
     → le16_at bytes place ≡ n
 le16-at bytes rest after place n here fits split = le16_at-bytes bytes place n (rw (here.left, split) refl) fits
 
-pub le32-at : (bytes rest after : List ℕ) (place n : ℕ) → At bytes place rest → n < 2 ^ 32 → rest ≡ to_le_bytes w32 n ++ after
+pub le32-at : (bytes rest after : List ℕ) (place n : ℕ) → At bytes place rest → n < 2 ^ 32
+    → rest ≡ to_le_bytes w32 n ++ after
     → le32_at bytes place ≡ n
 le32-at bytes rest after place n here fits split = le32_at-bytes bytes place n (rw (here.left, split) refl) fits
 
-pub le64-at : (bytes rest after : List ℕ) (place n : ℕ) → At bytes place rest → n < 2 ^ 64 → rest ≡ to_le_bytes w64 n ++ after
+pub le64-at : (bytes rest after : List ℕ) (place n : ℕ) → At bytes place rest → n < 2 ^ 64
+    → rest ≡ to_le_bytes w64 n ++ after
     → le64_at bytes place ≡ n
 le64-at bytes rest after place n here fits split = le64_at-bytes bytes place n (rw (here.left, split) refl) fits
 
-pub byte-at : (bytes rest after : List ℕ) (place n : ℕ) → At bytes place rest → n < 2 ^ 8 → rest ≡ to_le_bytes w8 n ++ after
+pub byte-at : (bytes rest after : List ℕ) (place n : ℕ) → At bytes place rest → n < 2 ^ 8
+    → rest ≡ to_le_bytes w8 n ++ after
     → get_or bytes place 0 ≡ n
 byte-at bytes rest after place n here fits split =
     let below : n % 256 ≡ n = omega arith in
@@ -61,7 +66,8 @@ pub record Left (bytes : List ℕ) (place : ℕ) (fields : List Field) (end : Li
   pub here : At bytes place rest
   pub spells : Spells rest fields end
 
-pub Left-start : (bytes : List ℕ) (fields : List Field) (end : List ℕ) → Spells bytes fields end → Left bytes 0 fields end
+pub Left-start : (bytes : List ℕ) (fields : List Field) (end : List ℕ) → Spells bytes fields end
+    → Left bytes 0 fields end
 Left-start bytes fields end s = record { rest = bytes; here = At-start bytes; spells = s }
 
 -- a field is read, and the next follows it

@@ -34,7 +34,8 @@ Writes-more {old} {mid} {new} {fields} {more} first second =
 
 -- ---- lists of selectors
 
-written-entries : (list : List SelectorParts) → written (flat_map selector_fields list) ≡ flat_map (λ s. written (selector_fields s)) list
+written-entries : (list : List SelectorParts)
+    → written (flat_map selector_fields list) ≡ flat_map (λ s. written (selector_fields s)) list
 written-entries [] = refl
 written-entries (s ∷ list) =
     written-append (selector_fields s) (flat_map selector_fields list) ∙ ap (λ xs. written (selector_fields s) ++ xs) (written-entries list)

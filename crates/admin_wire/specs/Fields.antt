@@ -14,7 +14,8 @@ Spells bytes [] rest = bytes ≡ rest
 Spells bytes (number width n ∷ fields) rest =
     (n < 256 ^ byte_len width) × ((after : List ℕ) × (bytes ≡ to_le_bytes width n ++ after) × Spells after fields rest)
 Spells bytes (reserved count ∷ fields) rest =
-    (unread : List ℕ) × (after : List ℕ) × (length unread ≡ count) × (bytes ≡ unread ++ after) × Spells after fields rest
+    (unread : List ℕ) × (after : List ℕ) × (length unread ≡ count) × (bytes ≡ unread ++ after)
+    × Spells after fields rest
 Spells bytes (raw given ∷ fields) rest = (after : List ℕ) × (bytes ≡ given ++ after) × Spells after fields rest
 
 -- the bytes of a field, where reserved bytes are 0

@@ -9,4 +9,5 @@ pub mod Wire
 pub mod Needs
 pub mod Fields
 pub mod Layouts
+pub mod LaidOut
 pub mod Replies

@@ -5,7 +5,8 @@ ghost use Rattle.std.specs.List.{list_any};
 ghost use Rattle.admin_wire.specs.Capabilities.{is_other_action, limits_of, selectors_of, raw_actions, actions_of, cap_data_of, cap_of};
 ghost use Rattle.admin_wire.specs.Codes.{cap_head_size, limits_size, list_head_size, most_command_bytes};
 ghost use Rattle.admin_wire.specs.Fields.{Writes, written};
-ghost use Rattle.admin_wire.specs.Layouts.{cap_id, cap_head_fields, limits_fields, actions_fields, action_bytes, cap_fields, HasCapBytes, HasCapLayout};
+ghost use Rattle.admin_wire.specs.LaidOut.{HasCapBytes, HasCapLayout};
+ghost use Rattle.admin_wire.specs.Layouts.{cap_id, cap_head_fields, limits_fields, actions_fields, action_bytes, cap_fields};
 
 use crate::codes::{
     CAP_HEAD_LEN, LIMITS_LEN, LIST_HEAD_LEN, VIRTIO_NET_FF_ACTION_CAP, VIRTIO_NET_FF_ACTION_DROP,

@@ -10,16 +10,17 @@
 //! What is promised, for every list of bytes and every command:
 //! - `read_command` gives the one command that the bytes lay out, or their first fault, in the order of `WireErr`; each
 //!   fault comes exactly where its condition holds;
-//! - it gives a command that has a layout of its own, so with no odd list or key, exactly where the bytes begin with that
-//!   layout, field by field;
+//! - it gives a command that has a layout of its own, so with no odd list or key, exactly where the bytes begin with
+//!   that layout, field by field;
 //! - `put_command` writes that layout, and what it writes reads as the command;
 //! - `put_reply` writes the reply's bytes, cut to the room, and `read_reply` gives a reply back from its whole bytes;
 //! - each call returns; none asks for memory.
 //!
-//! The definitions are in `specs/`. `Codes` and `Opcodes` have the numbers of the draft and the sizes of all parts. `Wire`
-//! has the layout of a command as a whole (`command_of`), over `Headers`, `Objects`, `Capabilities` and `Lists` (of
-//! selectors). `Needs` says how many bytes a command needs and when each fault comes. `Layouts` says the layout the
-//! other way round, from a command to its fields (`Fields`) and bytes, and `Replies` has the bytes of a reply.
+//! The definitions are in `specs/`. `Codes` and `Opcodes` have the numbers of the draft and the sizes of all parts.
+//! `Wire` has the layout of a command as a whole (`command_of`), over `Headers`, `Objects`, `Capabilities` and `Lists`
+//! (of selectors). `Needs` says how many bytes a command needs and when each fault comes. `Layouts` says the layout the
+//! other way round, from a command to its fields (`Fields`) and bytes; `LaidOut` says which commands have one, and
+//! which bytes begin with it. `Replies` has the bytes of a reply. The law on the length of commands is in `laws`.
 #![tactic(auto)]
 
 mod capabilities;

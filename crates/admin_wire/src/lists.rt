@@ -3,7 +3,8 @@
 ghost use Rattle.std.specs.Prelude.{◌≡◌, ◌+◌, ◌≤◌, length, flat_map, IfOk, All};
 ghost use Rattle.admin_wire.specs.Codes.{entry_head_size, most_command_bytes};
 ghost use Rattle.admin_wire.specs.Fields.{Writes, written};
-ghost use Rattle.admin_wire.specs.Layouts.{selector_fields, list_fields, IsKnownList, IsGoodList};
+ghost use Rattle.admin_wire.specs.LaidOut.{IsKnownList, IsGoodList};
+ghost use Rattle.admin_wire.specs.Layouts.{selector_fields, list_fields};
 ghost use Rattle.ff_headers.specs.SelectorParts.{IsWhole};
 ghost use Rattle.admin_wire.specs.Lists.{entry_len, whole_entry, selector_of, with_entry, list_of};
 

@@ -3,7 +3,8 @@
 ghost use Rattle.std.specs.Prelude.{◌≡◌, ℕ, ◌+◌, ◌≤◌, length};
 ghost use Rattle.admin_wire.specs.Codes.{bare_head_size, head_size, rule_head_size, most_key_bytes, most_command_bytes};
 ghost use Rattle.admin_wire.specs.Fields.{Writes, written};
-ghost use Rattle.admin_wire.specs.Layouts.{bare_head_fields, head_fields, object_fields, rule_fields, key_bytes, HasObjectBytes, HasObjectLayout};
+ghost use Rattle.admin_wire.specs.LaidOut.{HasObjectBytes, HasObjectLayout};
+ghost use Rattle.admin_wire.specs.Layouts.{bare_head_fields, head_fields, object_fields, rule_fields, key_bytes};
 ghost use Rattle.admin_wire.specs.Objects.{head_of, bare_head_of, group_of, classifier_of, raw_key, rule_of, object_of, head_and_object};
 
 use crate::codes::{

@@ -3,7 +3,8 @@
 ghost use Rattle.std.specs.Prelude.{◌≡◌, ◌+◌, ◌≤◌, Ok, length};
 ghost use Rattle.admin_wire.specs.Codes.{most_command_bytes};
 ghost use Rattle.admin_wire.specs.Fields.{Writes, written};
-ghost use Rattle.admin_wire.specs.Layouts.{HasBytes, HasLayout, command_bytes, data_fields};
+ghost use Rattle.admin_wire.specs.LaidOut.{HasBytes, HasLayout};
+ghost use Rattle.admin_wire.specs.Layouts.{command_bytes, data_fields};
 ghost use Rattle.admin_wire.specs.Wire.{command_of};
 
 use crate::capabilities::{put_cap, put_cap_head};

@@ -24,13 +24,15 @@ AreBytes-take bytes size all = record {
 }
 
 -- so many bytes at a place
-pub piece-length : (bytes : List ℕ) (place size : ℕ) → place + size ≤ length bytes → length (take size (drop place bytes)) ≡ size
+pub piece-length : (bytes : List ℕ) (place size : ℕ) → place + size ≤ length bytes
+    → length (take size (drop place bytes)) ≡ size
 piece-length bytes place size fits = length-take-le size (drop place bytes) (omega (arith, length-drop place bytes))
 
 piece-bytes : (bytes : List ℕ) (place size : ℕ) → AreBytes bytes → AreBytes (take size (drop place bytes))
 piece-bytes bytes place size all = AreBytes-take (drop place bytes) size (AreBytes-drop bytes place all)
 
-piece-at : (bytes : List ℕ) (place size i : ℕ) → i < size → get_or (take size (drop place bytes)) i 0 ≡ get_or bytes (place + i) 0
+piece-at : (bytes : List ℕ) (place size i : ℕ) → i < size
+    → get_or (take size (drop place bytes)) i 0 ≡ get_or bytes (place + i) 0
 piece-at bytes place size i inside = get_or-take size (drop place bytes) i 0 inside ∙ get_or-drop place bytes i 0
 
 -- ---- a number depends on its bytes alone
@@ -44,19 +46,22 @@ piece-same : (before after : List ℕ) (place size i : ℕ) → HaveSame before 
 piece-same before after place size i have inside =
     piece-at after place size i inside ∙ have.same (place + i) (omega arith) (omega arith) ∙ sym (piece-at before place size i inside)
 
-pub le16_at-same : (before after : List ℕ) (place : ℕ) → HaveSame before after place 2 → le16_at after place ≡ le16_at before place
+pub le16_at-same : (before after : List ℕ) (place : ℕ) → HaveSame before after place 2
+    → le16_at after place ≡ le16_at before place
 unfolding le16_at
 le16_at-same before after place have =
     let byte = λ (i : ℕ) (inside : i < 2). piece-same before after place 2 i have inside in
     rw (byte 0 (omega arith), byte 1 (omega arith)) refl
 
-pub le32_at-same : (before after : List ℕ) (place : ℕ) → HaveSame before after place 4 → le32_at after place ≡ le32_at before place
+pub le32_at-same : (before after : List ℕ) (place : ℕ) → HaveSame before after place 4
+    → le32_at after place ≡ le32_at before place
 unfolding le32_at
 le32_at-same before after place have =
     let byte = λ (i : ℕ) (inside : i < 4). piece-same before after place 4 i have inside in
     rw (byte 0 (omega arith), byte 1 (omega arith), byte 2 (omega arith), byte 3 (omega arith)) refl
 
-pub le64_at-same : (before after : List ℕ) (place : ℕ) → HaveSame before after place 8 → le64_at after place ≡ le64_at before place
+pub le64_at-same : (before after : List ℕ) (place : ℕ) → HaveSame before after place 8
+    → le64_at after place ≡ le64_at before place
 unfolding le64_at
 le64_at-same before after place have =
     let byte = λ (i : ℕ) (inside : i < 8). piece-same before after place 8 i have inside in
@@ -73,15 +78,18 @@ le64_at-same before after place have =
 
 -- ---- the bytes of a number give it
 
-pub le16_at-bytes : (bytes : List ℕ) (place n : ℕ) → take 2 (drop place bytes) ≡ to_le_bytes w16 n → n < 2 ^ 16 → le16_at bytes place ≡ n
+pub le16_at-bytes : (bytes : List ℕ) (place n : ℕ) → take 2 (drop place bytes) ≡ to_le_bytes w16 n → n < 2 ^ 16
+    → le16_at bytes place ≡ n
 unfolding le16_at
 le16_at-bytes bytes place n spelled fits = rw spelled (from_le_bytes-to_le_bytes_2 n fits)
 
-pub le32_at-bytes : (bytes : List ℕ) (place n : ℕ) → take 4 (drop place bytes) ≡ to_le_bytes w32 n → n < 2 ^ 32 → le32_at bytes place ≡ n
+pub le32_at-bytes : (bytes : List ℕ) (place n : ℕ) → take 4 (drop place bytes) ≡ to_le_bytes w32 n → n < 2 ^ 32
+    → le32_at bytes place ≡ n
 unfolding le32_at
 le32_at-bytes bytes place n spelled fits = rw spelled (from_le_bytes-to_le_bytes_4 n fits)
 
-pub le64_at-bytes : (bytes : List ℕ) (place n : ℕ) → take 8 (drop place bytes) ≡ to_le_bytes w64 n → n < 2 ^ 64 → le64_at bytes place ≡ n
+pub le64_at-bytes : (bytes : List ℕ) (place n : ℕ) → take 8 (drop place bytes) ≡ to_le_bytes w64 n → n < 2 ^ 64
+    → le64_at bytes place ≡ n
 unfolding le64_at
 le64_at-bytes bytes place n spelled fits = rw spelled (from_le_bytes-to_le_bytes_8 n fits)
 

@@ -11,7 +11,7 @@ use Rattle.admin_wire.specs.declared.command.CapData.{CapData}
 use Rattle.admin_wire.specs.declared.command.CapData.TheVariants as caps
 use Rattle.admin_wire.specs.declared.command.RawList.{RawList}
 use Rattle.admin_wire.specs.declared.command.RawList.TheVariants.{Good, Odd}
-use Rattle.admin_wire.specs.Layouts.{HasCapLayout}
+use Rattle.admin_wire.specs.LaidOut.{HasCapLayout}
 use Rattle.cap_table.specs.Caps.{CapsParts, DriverParts, AtMost, AreSelectors}
 use Rattle.cap_table.specs.CapSets.{is_some_above, cap_fault, IsRising, IsSettable, with_cap, IsWithin}
 use Rattle.cap_table.specs.declared.setting.CapErr.{CapErr}

@@ -2,7 +2,7 @@
 
 ghost use Rattle.std.specs.Prelude.{◌≡◌, None};
 ghost use Rattle.admin_wire.specs.declared.command.CapData.{CapData};
-ghost use Rattle.admin_wire.specs.Layouts.{HasCapLayout};
+ghost use Rattle.admin_wire.specs.LaidOut.{HasCapLayout};
 ghost use Rattle.cap_table.specs.Caps.{CapsParts, DriverParts};
 ghost use Rattle.cap_table.specs.CapSets.{cap_fault, with_cap, IsWithin};
 

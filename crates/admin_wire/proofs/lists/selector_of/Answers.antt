@@ -7,7 +7,8 @@ use Rattle.admin_wire.specs.Lists.{selector_of}
 use Rattle.admin_wire.proofs.lists.selector_of.Goals as goal
 
 -- an entry whose length byte is its type's size
-of_type : (entry : List ℕ) (kind : Kind) → kind_of_code (get_or entry 0 0) ≡ Some kind → get_or entry 4 0 ≡ kind_size kind
+of_type : (entry : List ℕ) (kind : Kind) → kind_of_code (get_or entry 0 0) ≡ Some kind
+    → get_or entry 4 0 ≡ kind_size kind
     → Some (selector_with kind (get_or entry 1 0) (take (length entry - 8) (drop 8 entry))) ≡ selector_of entry
 unfolding selector_of
 of_type entry kind known sized = rw (known, eq-eqb _ _ sized, take_rest) refl

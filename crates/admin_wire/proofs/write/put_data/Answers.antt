@@ -1,6 +1,6 @@
 use Rattle.std.proofs.Common.{inl, inr, sym, subst}
 use Rattle.admin_wire.specs.declared.command.Command.{Command}
-use Rattle.admin_wire.specs.Layouts.{HasBytes, HasLayout}
+use Rattle.admin_wire.specs.LaidOut.{HasBytes, HasLayout}
 use Rattle.admin_wire.proofs.write.put_data.Goals as goal
 
 -- a create, or a modify
