@@ -1,11 +1,10 @@
 -- A text is read line by line, and a line word by word.
 use Rattle.std.proofs.Common.{◌≡◌, ℕ, ◌+◌, ◌<◌, ◌≤◌, Bool, true, false, List, [], ◌∷◌, length, take, drop, get_or, eqb, filter, sym, ap, ◌∙◌, inl, inr, ◌⊎◌, ltb, Some, None, refl, arith, ⊎_elim, add-zero}
-use Rattle.std.specs.List.{slice_split, slice_get, position, position_or_len, prefix_len, before_first, after_first, All}
+use Rattle.std.specs.List.{slice_split, position, position_or_len, prefix_len, before_first, after_first, All}
 use Rattle.std.specs.Str.Lines.{lines, lines_of_parts, strip_carriage_return}
 use Rattle.std.proofs.lemmas.Bool.{cases_Bool, cases_lt, cond-true, cond-false, ne_eqb, not_from_false, both_ways, lt-ltb, le-ltb}
 use Rattle.std.proofs.lemmas.List.{take_all, drop_all, drop_more, drop-drop, length-take-le, length-drop, get_or-drop, nil_from_length}
 use Rattle.std.proofs.lemmas.List.Elements.{All-from_get_or}
-use Rattle.std.proofs.lemmas.Option.{slice_get_past, slice_get-get_or}
 use Rattle.std.proofs.lemmas.List.Splits.{slice_split_first, slice_split_none, slice_split-cons_yes, length-slice_split}
 use Rattle.std.proofs.lemmas.List.Sums.{prefix_len_stops, passes_at_first, fails_before_first}
 use Rattle.vnff_base.specs.Lines.{NumberedLine, UnreadLines, is_line_feed, is_blank, is_nonempty, is_skipped, numbered_from, unread_from, words_of}
@@ -131,21 +130,3 @@ pub unread-skip : (n : ℕ) (text line rest : List ℕ) → lines text ≡ line 
 unread-skip n text line rest first skipped = same_unread _ _ (left-skip n text line rest first skipped) (missing-next n text line rest first)
 
 pub ruleset reader_steps = (missing-next, left-next, unread-skip)
-
--- the items from place i on: none are left, or the first of them is the item at i
-pub slice_get_none : {X : Type 0} (xs : List X) (i place : ℕ) → i ≤ place → drop i xs ≡ [] → None ≡ slice_get xs place
-slice_get_none xs i place before none = sym (slice_get_past xs place (omega (arith, length-drop i xs, ap length none)))
-
-pub slice_get_next : {X : Type 0} (xs more : List X) (x : X) (i : ℕ) → drop i xs ≡ x ∷ more → Some x ≡ slice_get xs i
-slice_get_next xs more x i next =
-    let inside : i < length xs = omega (arith, length-drop i xs, ap length next) in
-    let same : get_or xs i x ∷ drop (i + 1) xs ≡ x ∷ more = sym (drop_more xs i x inside) ∙ next in
-    sym (slice_get-get_or xs i x inside ∙ ap Some (cc))
-
-pub drop_next : {X : Type 0} (xs more : List X) (x : X) (i : ℕ) → drop i xs ≡ x ∷ more → more ≡ drop (i + 1) xs
-drop_next xs more x i next =
-    let inside : i < length xs = omega (arith, length-drop i xs, ap length next) in
-    let same : get_or xs i x ∷ drop (i + 1) xs ≡ x ∷ more = sym (drop_more xs i x inside) ∙ next in
-    cc
-
-pub ruleset places_of_words = (slice_get_none, slice_get_next, drop_next)

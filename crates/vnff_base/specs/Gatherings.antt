@@ -1,4 +1,5 @@
--- A text that is gathered before it is put to an output, piece by piece, so that a few of its bytes wait. This project's own.
+-- A text that is gathered before it is put to an output, piece by piece, so that a few of its bytes wait. This
+-- project's own.
 use Rattle.std.specs.Prelude.{◌≡◌, ℕ, List, ◌++◌, Result, MatchResult}
 use Rattle.vnff_base.specs.Outputs.{OutputState, Wrote, Stopped}
 

@@ -1,4 +1,5 @@
--- The spelling of bytes in hexadecimal, in a script's words and in what is printed: two digits a byte, `-` for no bytes. This project's own.
+-- The spelling of bytes in hexadecimal, in a script's words and in what is printed: two digits a byte, `-` for no
+-- bytes. This project's own.
 use Rattle.std.specs.Prelude.{ℕ, ◌+◌, ◌*◌, ◌/◌, ◌%◌, ◌==◌, ◌&&◌, Bool, if◌then◌else◌, List, [], ◌∷◌, length, codes, Option, Some, None}
 use Rattle.std.specs.Char.{digit_char, digit_value, is_ascii_hexdigit}
 use Rattle.std.specs.List.{list_all, flat_map}

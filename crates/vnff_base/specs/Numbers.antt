@@ -1,4 +1,5 @@
--- The spelling of numbers in words: decimal digits, with no sign and no leading zero but that of `0` itself. This project's own.
+-- The spelling of numbers in words: decimal digits, with no sign and no leading zero but that of `0` itself. This
+-- project's own.
 use Rattle.std.specs.Prelude.{ℕ, ◌^◌, if◌then◌else◌, nat_lt, ◌&&◌, List, Option, Some, None}
 use Rattle.std.specs.Fmt.{decimal}
 use Rattle.std.specs.Str.{bytes_eq}

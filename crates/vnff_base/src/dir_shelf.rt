@@ -12,8 +12,8 @@ use std::{fs, io};
 
 /// The files of the system, each under its path. It tells no contract what they hold.
 ///
-/// The file that is read stays open, so that piece after piece comes from the file that was opened, whatever else stands
-/// under its path by then, and a pipe is read to its end as well.
+/// The file that is read stays open, so that piece after piece comes from the file that was opened, whatever else
+/// stands under its path by then, and a pipe is read to its end as well.
 #[derive(Drop)]
 pub struct DirShelf<R: Files> {
     rt: R,
@@ -43,8 +43,8 @@ impl<R: Files + AllocGlobal> DirShelf<R> {
         }
     }
 
-    /// Takes the file that is read, where it goes on at that place, or opens the file of that path there. A read from the
-    /// first byte on opens the file anew.
+    /// Takes the file that is read, where it goes on at that place, or opens the file of that path there. A read from
+    /// the first byte on opens the file anew.
     fn take_file(&mut self, path: &str, at: u64) -> io::Result<OpenedFile<R::File>>
         ensures there { IfOk result (λ opened. IsAt path.now at opened) }
         ensures counts { (self.new.faults ≡ self.old.faults) × (self.new.given ≡ self.old.given) }
@@ -109,73 +109,5 @@ impl<R: Files + AllocGlobal> Shelf for DirShelf<R> {
                 Err(Failed)
             }
         }
-    }
-}
-
-#[cfg(test)]
-mod tests {
-    use super::*;
-    use std::env;
-    use std::io::{Write, pipe};
-    use std::os::fd::AsRawFd;
-    use std::test::Fail;
-
-    #[test]
-    fn reads_a_real_file(rt: HostRuntime) -> Result<(), Fail> {
-        let folder = env::temp_dir(&rt)?;
-        let mut path = folder.clone()?;
-        path.push("vnff_base_dir_shelf")?;
-        let name = path.to_string_lossy();
-        fs::write(&rt, name, b"a file")?;
-        let mut shelf = DirShelf::new(rt.clone()?);
-        let mut buf = [0u8; 8];
-        assert_eq!(rt; shelf.read_at(name, 2, &mut buf), Ok(4));
-        assert_eq!(rt; &buf[..4], b"file".as_slice());
-        assert_eq!(rt; shelf.read_at(name, 6, &mut buf), Ok(0));
-        assert_eq!(rt;
-            shelf.read_at(folder.to_string_lossy(), 0, &mut buf),
-            Err(Failed)
-        );
-        fs::remove_file(&rt, name)?;
-        assert_eq!(rt; shelf.read_at(name, 0, &mut buf), Err(Failed));
-        Ok(())
-    }
-
-    #[test]
-    fn reads_a_pipe_from_its_first_byte(rt: HostRuntime) -> Result<(), Fail> {
-        let (reader, mut writer) = pipe(&rt)?;
-        writer.write_all(b"piped")?;
-        drop(writer);
-        let path = format!(in rt.alloc(); "/proc/self/fd/{}", reader.as_raw_fd())?;
-        let name = path.as_str();
-        let mut shelf = DirShelf::new(rt.clone()?);
-        let mut buf = [0u8; 3];
-        assert_eq!(rt; shelf.read_at(name, 0, &mut buf), Ok(3));
-        assert_eq!(rt; buf.as_slice(), b"pip".as_slice());
-        assert_eq!(rt; shelf.read_at(name, 3, &mut buf), Ok(2));
-        assert_eq!(rt; &buf[..2], b"ed".as_slice());
-        assert_eq!(rt; shelf.read_at(name, 5, &mut buf), Ok(0));
-        assert_eq!(rt; shelf.read_at(name, 4, &mut buf), Err(Failed));
-        Ok(())
-    }
-
-    #[test]
-    fn reads_on_in_the_file_that_was_opened(rt: HostRuntime) -> Result<(), Fail> {
-        let mut path = env::temp_dir(&rt)?;
-        path.push("vnff_base_replaced")?;
-        let name = path.to_string_lossy();
-        let newer = format!(in rt.alloc(); "{name}.new")?;
-        let mut shelf = DirShelf::new(rt.clone()?);
-        let mut buf = [0u8; 3];
-        fs::write(&rt, name, b"older")?;
-        fs::write(&rt, newer.as_str(), b"NEWER")?;
-        assert_eq!(rt; shelf.read_at(name, 0, &mut buf), Ok(3));
-        fs::rename(&rt, newer.as_str(), name)?;
-        assert_eq!(rt; shelf.read_at(name, 3, &mut buf), Ok(2));
-        assert_eq!(rt; &buf[..2], b"er".as_slice());
-        assert_eq!(rt; shelf.read_at(name, 1, &mut buf), Ok(3));
-        assert_eq!(rt; buf.as_slice(), b"EWE".as_slice());
-        fs::remove_file(&rt, name)?;
-        Ok(())
     }
 }

@@ -84,27 +84,3 @@ impl Gathered {
         self.waiting.extend_from_slice(piece).unwrap();
     }
 }
-
-#[cfg(test)]
-mod tests {
-    use super::*;
-    use crate::mem_out::MemOut;
-    use std::test::Fail;
-
-    #[test]
-    fn puts_large_pieces(rt: HostRuntime) -> Result<(), Fail> {
-        let mut out = MemOut::new(rt.alloc(), 4 * ROOM)?;
-        out.fail_at(2)?;
-        let mut text = Gathered::new(rt.alloc())?;
-        let long = vec![in rt.alloc(); b'x'; ROOM - 1]?;
-        assert_eq!(rt; text.put(&mut out, long.as_slice()), Ok(()));
-        assert_eq!(rt; text.put(&mut out, b"y"), Ok(()));
-        assert_eq!(rt; out.bytes().len(), 0);
-        assert_eq!(rt; text.put(&mut out, b"z"), Ok(()));
-        assert_eq!(rt; out.bytes().len(), ROOM);
-        assert_eq!(rt; text.finish(&mut out), Ok(()));
-        assert!(rt; out.bytes().ends_with(b"xyz"));
-        assert_eq!(rt; text.put(&mut out, &[b'w'; 70_000]), Err(Failed));
-        Ok(())
-    }
-}

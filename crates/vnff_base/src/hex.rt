@@ -90,19 +90,3 @@ fn digit(byte: u8) -> u8
         _ => byte - b'a' + 10,
     }
 }
-
-#[cfg(test)]
-mod tests {
-    use super::*;
-    use std::test::Fail;
-
-    #[test]
-    fn either_case(rt: HostRuntime) -> Result<(), Fail> {
-        assert!(rt; is_hex(b"00aFfE"));
-        assert_eq!(rt;
-            hex_read(rt.alloc(), b"00aFfE")?.as_slice(),
-            [0, 0xaf, 0xfe].as_slice()
-        );
-        Ok(())
-    }
-}

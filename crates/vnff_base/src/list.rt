@@ -87,24 +87,3 @@ impl<T: Drop> From<Vec<T>> for List<T> {
         List { items }
     }
 }
-
-#[cfg(test)]
-mod tests {
-    use super::*;
-    use std::test::Fail;
-
-    #[test]
-    fn each_call_at_u16(rt: HostRuntime) -> Result<(), Fail> {
-        let mut list: List<u16> = List::new(rt.alloc());
-        assert!(rt; list.is_empty());
-        list.push(7)?;
-        list.push(300)?;
-        assert_eq!(rt; list.len(), 2);
-        assert_eq!(rt; list.at(1).copied(), Some(300));
-        assert!(rt; list.at(2).is_none());
-        assert_eq!(rt; list.as_slice(), [7, 300].as_slice());
-        let list = List::from(list.into_vec());
-        assert_eq!(rt; list.as_slice(), [7, 300].as_slice());
-        Ok(())
-    }
-}

@@ -101,21 +101,3 @@ impl Out for MemOut {
         Ok(())
     }
 }
-
-#[cfg(test)]
-mod tests {
-    use super::*;
-    use std::test::Fail;
-
-    #[test]
-    fn writes_and_fails_as_told(rt: HostRuntime) -> Result<(), Fail> {
-        let mut out = MemOut::new(rt.alloc(), 5)?;
-        out.fail_at(1)?;
-        assert_eq!(rt; out.put(b"abc"), Ok(()));
-        assert_eq!(rt; out.put(b"d"), Err(Failed));
-        assert_eq!(rt; out.put(b"def"), Err(Failed));
-        assert_eq!(rt; out.put(b"de"), Ok(()));
-        assert_eq!(rt; out.bytes(), b"abcde".as_slice());
-        Ok(())
-    }
-}

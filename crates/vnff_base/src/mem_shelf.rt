@@ -159,25 +159,3 @@ fn copy_from(file: &[u8], at: u64, buf: &mut [u8]) -> usize
     buf[..taken].copy_from_slice(&rest[..taken]);
     taken
 }
-
-#[cfg(test)]
-mod tests {
-    use super::*;
-    use std::test::Fail;
-
-    #[test]
-    fn reads_and_fails_as_told(rt: HostRuntime) -> Result<(), Fail> {
-        let mut shelf = MemShelf::new(rt.alloc());
-        shelf.add("a", b"old")?;
-        shelf.add("a", b"new bytes")?;
-        shelf.fail_at(1)?;
-        let mut buf = [0u8; 4];
-        assert_eq!(rt; shelf.read_at("a", 4, &mut buf), Ok(4));
-        assert_eq!(rt; buf.as_slice(), b"byte".as_slice());
-        assert_eq!(rt; shelf.read_at("a", 4, &mut buf), Err(Failed));
-        assert_eq!(rt; shelf.read_at("b", 0, &mut buf), Err(Failed));
-        assert_eq!(rt; shelf.read_at("a", 8, &mut buf), Ok(1));
-        assert_eq!(rt; shelf.read_at("a", 9, &mut buf), Ok(0));
-        Ok(())
-    }
-}

@@ -38,16 +38,3 @@ fn digits_value(word: &[u8]) -> Option<u64>
     };
     text.parse().ok()
 }
-
-#[cfg(test)]
-mod tests {
-    use super::*;
-
-    #[test]
-    fn ends_of_the_range(rt: HostRuntime) {
-        assert_eq!(rt; num_read(b"0"), Some(0));
-        assert_eq!(rt; num_read(b"18446744073709551615"), Some(u64::MAX));
-        assert_eq!(rt; num_read(b"18446744073709551616"), None);
-        assert_eq!(rt; num_read(b"08"), None);
-    }
-}

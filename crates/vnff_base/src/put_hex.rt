@@ -87,23 +87,3 @@ pub fn hex_digit(bits: u8) -> u8
         b'a' + (bits - 10)
     }
 }
-
-#[cfg(test)]
-mod tests {
-    use super::*;
-    use crate::mem_out::MemOut;
-    use std::test::Fail;
-
-    #[test]
-    fn spells_bytes(rt: HostRuntime) -> Result<(), Fail> {
-        assert_eq!(rt; hex_digit(11), b'b');
-        let mut out = MemOut::new(rt.alloc(), 256)?;
-        assert_eq!(rt; hex_put(&mut out, &[]), Ok(()));
-        assert_eq!(rt; hex_put(&mut out, &[0x00, 0x5a, 0xf9]), Ok(()));
-        assert_eq!(rt; out.bytes(), b"-005af9".as_slice());
-        assert_eq!(rt; hex_put(&mut out, &[0xab; 65]), Ok(()));
-        assert_eq!(rt; out.bytes().len(), 137);
-        assert_eq!(rt; hex_put(&mut out, &[0xab; 65]), Err(Failed));
-        Ok(())
-    }
-}

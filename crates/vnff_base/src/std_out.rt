@@ -33,16 +33,3 @@ impl<R: Print> Out for StdOut<R> {
         }
     }
 }
-
-#[cfg(test)]
-mod tests {
-    use super::*;
-    use std::test::Fail;
-
-    #[test]
-    fn writes_to_standard_output(rt: HostRuntime) -> Result<(), Fail> {
-        let mut out = StdOut::new(rt.clone()?);
-        assert_eq!(rt; out.put(b"standard output\n"), Ok(()));
-        Ok(())
-    }
-}

@@ -1,8 +1,7 @@
 //! Lines and words of a text, as scripts and tables share them. A text is any bytes, and none of
 //! its lines is copied.
-ghost use Rattle.std.specs.Prelude.{◌≡◌, ◌<◌, ◌≤◌, ◌∷◌, [], length, slice_get, false, position, MatchOption, IfSome};
+ghost use Rattle.std.specs.Prelude.{◌≡◌, ◌<◌, ◌≤◌, ◌∷◌, [], length, false, position, MatchOption, IfSome};
 ghost use Rattle.std.specs.List.{position_or_len, prefix_len};
-ghost use Rattle.std.specs.Option.{option_copied};
 ghost use Rattle.std.specs.Str.Lines.{lines, strip_carriage_return};
 ghost use Rattle.vnff_base.specs.Lines.{is_blank, is_line_feed, is_skipped, unread_from, words_of};
 
@@ -135,32 +134,6 @@ pub fn first_word(line: &[u8]) -> Option<(&[u8], &[u8])>
     Some(words.split_at(word_len(words)))
 }
 
-/// How many words a line has.
-pub fn word_count(line: &[u8]) -> usize
-    ensures { result ≡ length (words_of line.now) }
-{
-    let mut count = 0;
-    let mut rest = line;
-    while let Some((_, more)) = first_word(rest) {
-        count += 1;
-        rest = more;
-    }
-    count
-}
-
-/// The word of a line at a place, counted from 0.
-#[tactic(auto, using(crate::proofs::LineLemmas::places_of_words))]
-pub fn word_at(line: &[u8], place: usize) -> Option<&[u8]>
-    ensures { option_copied result ≡ slice_get (words_of line.now) place }
-{
-    let mut rest = line;
-    for _ in 0..place {
-        (_, rest) = first_word(rest)?;
-    }
-    let (word, _) = first_word(rest)?;
-    Some(word)
-}
-
 // How many blanks a line begins with.
 fn blank_len(line: &[u8]) -> usize
     ensures count { result ≡ prefix_len is_blank line.now }
@@ -181,31 +154,4 @@ fn is_blank(byte: u8) -> bool
     ensures { result ≡ is_blank byte }
 {
     byte == b' ' || byte == b'\t'
-}
-
-#[cfg(test)]
-mod tests {
-    use super::*;
-    use std::test::Fail;
-
-    #[test]
-    fn lines_and_words(rt: HostRuntime) -> Result<(), Fail> {
-        let text = b"# ports\r\n \t\r\nframe\t 00ff  \r\n\nselect eth\r";
-        let mut reader = LineReader::new(text);
-        assert_eq!(rt; reader.missing(), 6);
-        let line = reader.next_line().ok_or("a line")?;
-        assert_eq!(rt; line.number, 3);
-        assert_eq!(rt; word_count(line.text), 2);
-        assert!(rt; word_at(line.text, 1) == Some(b"00ff".as_slice()));
-        let (word, rest) = first_word(line.text).ok_or("a word")?;
-        assert!(rt; word == b"frame".as_slice());
-        assert_eq!(rt; word_count(rest), 1);
-        let last = reader.next_line().ok_or("a last line")?;
-        assert_eq!(rt; last.number, 5);
-        assert!(rt; word_at(last.text, 1) == Some(b"eth\r".as_slice()));
-        assert!(rt; reader.next_line().is_none());
-        let (first, _) = first_line(text).ok_or("a first line")?;
-        assert!(rt; first == b"# ports".as_slice());
-        Ok(())
-    }
 }

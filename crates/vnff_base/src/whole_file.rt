@@ -75,29 +75,3 @@ fn new_piece(alloc: Global) -> Result<Vec<u8>, AllocError>
 {
     vec![in alloc; 0u8; PIECE]
 }
-
-#[cfg(test)]
-mod tests {
-    use super::*;
-    use crate::mem_shelf::MemShelf;
-    use std::test::Fail;
-
-    #[test]
-    fn reads_to_the_end(rt: HostRuntime) -> Result<(), Fail> {
-        let file = vec![in rt.alloc(); 7u8; 2 * PIECE + 1]?;
-        let length = file.len() as u64;
-        let mut shelf = MemShelf::new(rt.alloc());
-        shelf.add("file", file.as_slice())?;
-        shelf.fail_at(7)?;
-        // Four reads, and then three: the piece behind the limit is the last.
-        let whole = read_all(rt.alloc(), &mut shelf, "file", length);
-        assert_eq!(rt; whole.ok().ok_or("not read")?, file);
-        let longer = read_all(rt.alloc(), &mut shelf, "file", length - 1);
-        assert_eq!(rt; longer.err(), Some(ReadErr::TooLong));
-        let failed = read_all(rt.alloc(), &mut shelf, "file", length);
-        assert_eq!(rt; failed.err(), Some(ReadErr::ReadFault));
-        let missing = read_all(rt.alloc(), &mut shelf, "other", length);
-        assert_eq!(rt; missing.err(), Some(ReadErr::ReadFault));
-        Ok(())
-    }
-}
