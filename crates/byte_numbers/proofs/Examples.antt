@@ -1,6 +1,6 @@
 -- Numbers worked out by hand.
 use Rattle.std.proofs.Common.{◌≡◌, ℕ, List, [], ◌∷◌, refl}
-use Rattle.byte_numbers.specs.Numbers.{le16_at, le32_at, le64_at}
+use Rattle.byte_numbers.specs.Numbers.{le16_at, le32_at, le64_at, be16_at, be32_at}
 
 abbrev nine_bytes : List ℕ
 nine_bytes = 0 ∷ 1 ∷ 2 ∷ 3 ∷ 4 ∷ 5 ∷ 6 ∷ 7 ∷ 8 ∷ []
@@ -16,3 +16,11 @@ thirty_two = refl
 sixty_four : le64_at nine_bytes 1 ≡ 0x0807060504030201
 unfolding le64_at
 sixty_four = refl
+
+sixteen_big : be16_at nine_bytes 1 ≡ 0x0102
+unfolding be16_at
+sixteen_big = refl
+
+thirty_two_big : be32_at nine_bytes 1 ≡ 0x01020304
+unfolding be32_at
+thirty_two_big = refl

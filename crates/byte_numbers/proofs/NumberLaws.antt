@@ -1,10 +1,10 @@
 -- What a number in bytes depends on, and the bytes that give it.
-use Rattle.std.proofs.Common.{◌≡◌, ℕ, lit<, ◌+◌, ◌*◌, ◌^◌, ◌<◌, ◌≤◌, ◌∙◌, sym, arith, List, length, get_or, take, drop, refl, ⊎_elim, length-drop, length-take}
+use Rattle.std.proofs.Common.{◌≡◌, ℕ, lit<, ◌+◌, ◌*◌, ◌^◌, ◌<◌, ◌≤◌, ◌∙◌, sym, arith, List, length, get_or, take, drop, refl, ⊎_elim, length-drop, length-take, ◌++◌}
 use Rattle.std.specs.Int.{w16, w32, w64, to_le_bytes}
 use Rattle.std.proofs.lemmas.Bool.{cases_lt}
-use Rattle.std.proofs.lemmas.List.{get_or-drop, get_or-take, get_or_past, length-take-le}
+use Rattle.std.proofs.lemmas.List.{get_or-drop, get_or-take, get_or_past, get_or_append_left, length-take-le}
 use Rattle.std.proofs.lemmas.Nat.{from_le_bytes-to_le_bytes_2, from_le_bytes-to_le_bytes_4, from_le_bytes-to_le_bytes_8, le_bytes_2, le_bytes_4, le_bytes_8}
-use Rattle.byte_numbers.specs.Numbers.{le16_at, le32_at, le64_at}
+use Rattle.byte_numbers.specs.Numbers.{le16_at, le32_at, le64_at, be16_at, be32_at}
 
 -- ---- lists of bytes
 
@@ -41,6 +41,20 @@ piece-at bytes place size i inside = get_or-take size (drop place bytes) i 0 ins
 pub record HaveSame (before after : List ℕ) (place size : ℕ) : Type 0 where
   pub same : (k : ℕ) → place ≤ k → k < place + size → get_or after k 0 ≡ get_or before k 0
 
+-- bytes that are followed by others
+pub HaveSame-front : (front rest : List ℕ) (place size : ℕ) → place + size ≤ length front
+    → HaveSame front (front ++ rest) place size
+HaveSame-front front rest place size within = record {
+  same = λ k low high. get_or_append_left front rest 0 k (omega arith);
+}
+
+-- and so at fewer places
+pub HaveSame-part : (before after : List ℕ) (start count place size : ℕ) → start ≤ place → place + size ≤ start + count
+    → HaveSame before after start count → HaveSame before after place size
+HaveSame-part before after start count place size low high have = record {
+  same = λ k from to. have.same k (omega arith) (omega arith);
+}
+
 piece-same : (before after : List ℕ) (place size i : ℕ) → HaveSame before after place size → i < size
     → get_or (take size (drop place after)) i 0 ≡ get_or (take size (drop place before)) i 0
 piece-same before after place size i have inside =
@@ -75,6 +89,20 @@ le64_at-same before after place have =
       byte 6 (omega arith),
       byte 7 (omega arith),
     ) refl
+
+pub be16_at-same : (before after : List ℕ) (place : ℕ) → HaveSame before after place 2
+    → be16_at after place ≡ be16_at before place
+unfolding be16_at
+be16_at-same before after place have =
+    let byte = λ (i : ℕ) (inside : i < 2). piece-same before after place 2 i have inside in
+    rw (byte 0 (omega arith), byte 1 (omega arith)) refl
+
+pub be32_at-same : (before after : List ℕ) (place : ℕ) → HaveSame before after place 4
+    → be32_at after place ≡ be32_at before place
+unfolding be32_at
+be32_at-same before after place have =
+    let byte = λ (i : ℕ) (inside : i < 4). piece-same before after place 4 i have inside in
+    rw (byte 0 (omega arith), byte 1 (omega arith), byte 2 (omega arith), byte 3 (omega arith)) refl
 
 -- ---- the bytes of a number give it
 

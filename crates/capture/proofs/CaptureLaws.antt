@@ -4,11 +4,12 @@ use Rattle.std.proofs.lemmas.List.{take-append-drop, length-take-le, drop_at, ap
 use Rattle.std.proofs.lemmas.List.Elements.{All-head, All-tail}
 use Rattle.std.proofs.lemmas.Nat.{from_le_bytes-to_le_bytes_4}
 use Rattle.std.specs.List.{flat_map}
+use Rattle.byte_numbers.specs.Numbers.{le16_at, le32_at, be16_at, be32_at}
 use Rattle.capture.specs.declared.header.CaptureHeader.{CaptureHeader}
-use Rattle.capture.specs.FileHeaders.{number16, number32, is_version_2_4, link_type, header_of, IsHeader}
+use Rattle.capture.specs.FileHeaders.{number16_at, number32_at, is_version_2_4, link_type, header_of, IsHeader}
 use Rattle.capture.specs.Records.{captured_length, records_of, IsRecordHead, AreRecords}
 use Rattle.capture.specs.Captures.{capture_of, IsCapture, header_text, record_head, record_text, capture_text}
-use Rattle.capture.proofs.Choices.{guarded, bind_ok}
+use Rattle.capture.proofs.Choices.{fault_if-ok, bind_ok}
 use Rattle.capture.proofs.CaptureLemmas.{capture_of-header}
 use Rattle.capture.proofs.HeaderLaws.{header_of-good, good-header_of}
 use Rattle.capture.proofs.RecordLaws.{records_of-are, are-records_of}
@@ -16,7 +17,7 @@ use Rattle.capture.proofs.RecordLaws.{records_of-are, are-records_of}
 -- a header is whole where it is read
 pub header_of-whole : (bytes : List ℕ) (header : CaptureHeader) → header_of bytes ≡ Ok header → 24 ≤ length bytes
 unfolding header_of
-header_of-whole bytes header good = ltb-false (length bytes) 24 (guarded _ _ _ _ good).0
+header_of-whole bytes header good = ltb-false (length bytes) 24 (fault_if-ok _ _ _ _ good).0
 
 pub capture_of-is : (bytes : List ℕ) (frames : List (List ℕ)) → capture_of bytes ≡ Ok frames → IsCapture bytes frames
 unfolding capture_of
@@ -35,7 +36,7 @@ is-capture_of bytes frames (kind, header, rest, good, split, records) =
 
 -- the head of a record that is written
 head-written : (frame : List ℕ) → length frame ≤ 262144 → IsRecordHead false (record_head (length frame)) frame
-unfolding record_head captured_length number32
+unfolding record_head captured_length number32_at le32_at
 head-written frame within = record {
   size = refl;
   captured = from_le_bytes-to_le_bytes_4 (length frame) (omega arith);
@@ -49,7 +50,7 @@ records-written (frame ∷ frames) short =
     (record_head (length frame), flat_map record_text frames, head-written frame (All-head (λ f. length f ≤ 262144) frame frames short), append_assoc (record_head (length frame)) frame (flat_map record_text frames), records-written frames (All-tail (λ f. length f ≤ 262144) frame frames short))
 
 header-written : IsHeader (record { big = false; nanos = false }) header_text
-unfolding header_text is_version_2_4 link_type number16 number32
+unfolding header_text is_version_2_4 link_type number16_at number32_at le16_at le32_at be16_at be32_at
 header-written = record { size = refl; magic = refl; version = refl; link_type = refl }
 
 pub capture-written : (frames : List (List ℕ)) → All (λ frame. length frame ≤ 262144) frames → IsCapture (capture_text frames) frames

@@ -3,7 +3,7 @@ use Rattle.std.proofs.Common.{◌≡◌, ℕ, List, drop, Result, Ok, Err, refl}
 use Rattle.capture.specs.declared.error.CaptureErr.{CaptureErr}
 use Rattle.capture.specs.declared.header.CaptureHeader.{CaptureHeader}
 use Rattle.capture.specs.FileHeaders.{header_of}
-use Rattle.capture.specs.Records.{seen, records_of}
+use Rattle.capture.specs.Records.{map_ok, records_of}
 use Rattle.capture.specs.Captures.{capture_of}
 use Rattle.capture.proofs.RecordLemmas.{front-none}
 
@@ -15,9 +15,9 @@ pub capture_of-bad_header : (bytes : List ℕ) (fault : CaptureErr) → header_o
 unfolding capture_of
 capture_of-bad_header bytes fault bad = rw bad refl
 
--- a fault, also of what is seen of a value
-pub seen-err : {A B : Type 0} (view : A → B) (read : Result A CaptureErr) (fault : CaptureErr) → Err fault ≡ seen view read → read ≡ Err fault
-seen-err view (Ok x) fault same = absurd (cc)
-seen-err view (Err e) fault same = cc
+-- a fault, also where the value is mapped
+pub map_ok-err : {A B : Type 0} (view : A → B) (read : Result A CaptureErr) (fault : CaptureErr) → Err fault ≡ map_ok view read → read ≡ Err fault
+map_ok-err view (Ok x) fault same = absurd (cc)
+map_ok-err view (Err e) fault same = cc
 
-pub ruleset captures = (capture_of-header, capture_of-bad_header, seen-err, front-none)
+pub ruleset captures = (capture_of-header, capture_of-bad_header, map_ok-err, front-none)

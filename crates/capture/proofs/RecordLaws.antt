@@ -2,14 +2,14 @@
 use Rattle.std.proofs.Common.{◌≡◌, ℕ, zero, suc, ◌+◌, ◌<◌, ◌≤◌, Bool, List, [], ◌∷◌, ◌++◌, length, take, drop, Ok, refl, ap, sym, ◌∙◌, subst, arith, ltb-false, le-ltb}
 use Rattle.std.proofs.lemmas.List.{take_at, drop_at, take-append-drop, length-append, length-drop, length-take-le, append_assoc, drop-drop}
 use Rattle.std.proofs.lemmas.Bool.{cond-false}
-use Rattle.capture.specs.Records.{seen, captured_length, frame_of, records_within, records_of, IsRecordHead, AreRecords}
-use Rattle.capture.proofs.Choices.{guarded, bind_ok, ok_same}
-use Rattle.capture.proofs.HeaderLaws.{number32-behind}
+use Rattle.capture.specs.Records.{map_ok, captured_length, frame_of, records_within, records_of, IsRecordHead, AreRecords}
+use Rattle.capture.proofs.Choices.{fault_if-ok, bind_ok, ok_same}
+use Rattle.capture.proofs.HeaderLaws.{number32_at-front}
 use Rattle.capture.proofs.RecordLemmas.{records_of-end, records_of-more, shorter}
 
 captured-front : (big : Bool) (head rest : List ℕ) → length head ≡ 16 → captured_length big (head ++ rest) ≡ captured_length big head
 unfolding captured_length
-captured-front big head rest size = number32-behind big 8 head rest (omega arith)
+captured-front big head rest size = number32_at-front big head rest 8 (omega arith)
 
 -- a record that is read
 pub record RecordRead (big : Bool) (bytes frame : List ℕ) : Type 0 where
@@ -21,9 +21,9 @@ pub record RecordRead (big : Bool) (bytes frame : List ℕ) : Type 0 where
 pub frame_of-read : (big : Bool) (at : ℕ) (bytes frame : List ℕ) → frame_of big at bytes ≡ Ok frame → RecordRead big bytes frame
 unfolding frame_of
 frame_of-read big at bytes frame read =
-    let long = guarded _ _ _ _ read in
-    let within = guarded _ _ _ _ long.1 in
-    let whole = guarded _ _ _ _ within.1 in
+    let long = fault_if-ok _ _ _ _ read in
+    let within = fault_if-ok _ _ _ _ long.1 in
+    let whole = fault_if-ok _ _ _ _ within.1 in
     record {
       long = ltb-false _ 16 long.0;
       within = ltb-false 262144 _ within.0;
@@ -84,4 +84,4 @@ are-records_of big at bytes (frame ∷ frames) (head, rest, good, split, behind)
     let some : 0 < length bytes = omega (arith, ap length split, length-append head (frame ++ rest)) in
     let read = ap (frame_of big at) split ∙ frame_of-record big at head frame rest good in
     let left = ap (drop (16 + length frame)) (split ∙ sym (append_assoc head frame rest)) ∙ drop_at (head ++ frame) rest (16 + length frame) (omega (arith, length-append head frame)) in
-    records_of-more big at bytes frame some read ∙ ap (λ xs. seen (λ more. frame ∷ more) (records_of big (at + (16 + length frame)) xs)) left ∙ ap (seen (λ more. frame ∷ more)) (are-records_of big (at + (16 + length frame)) rest frames behind)
+    records_of-more big at bytes frame some read ∙ ap (λ xs. map_ok (λ more. frame ∷ more) (records_of big (at + (16 + length frame)) xs)) left ∙ ap (map_ok (λ more. frame ∷ more)) (are-records_of big (at + (16 + length frame)) rest frames behind)

@@ -3,13 +3,13 @@ use Rattle.std.proofs.Common.{◌≡◌, ℕ, zero, suc, ◌+◌, ◌<◌, ◌�
 use Rattle.std.proofs.lemmas.List.{length-drop, drop-drop, append_assoc, append-nil}
 use Rattle.std.proofs.lemmas.Bool.{cases_Bool, cond-false, eqb-false, eqb-true}
 use Rattle.capture.specs.declared.error.CaptureErr.{CaptureErr}
-use Rattle.capture.specs.Records.{◌>>=◌, seen, with_front, frame_of, next_of, records_within, records_of}
+use Rattle.capture.specs.Records.{◌>>=◌, map_ok, with_front, frame_of, next_of, records_within, records_of}
 
 bind_same : {A B : Type 0} (read : Result A CaptureErr) (f g : A → Result B CaptureErr) → ((x : A) → f x ≡ g x) → (read >>= f) ≡ (read >>= g)
 bind_same (Ok x) f g same = same x
 bind_same (Err e) f g same = refl
 
-bind_cons : (frame : List ℕ) (read : Result (List (List ℕ)) CaptureErr) → (read >>= λ frames. Ok (frame ∷ frames)) ≡ seen (λ frames. frame ∷ frames) read
+bind_cons : (frame : List ℕ) (read : Result (List (List ℕ)) CaptureErr) → (read >>= λ frames. Ok (frame ∷ frames)) ≡ map_ok (λ frames. frame ∷ frames) read
 bind_cons frame (Ok frames) = refl
 bind_cons frame (Err e) = refl
 
@@ -32,12 +32,12 @@ records_of-end big at [] none = refl
 records_of-end big at (b ∷ bs) none = absurd (omega arith)
 
 -- a record that is read, and the records behind it
-pub records_of-more : (big : Bool) (at : ℕ) (bytes frame : List ℕ) → 0 < length bytes → frame_of big at bytes ≡ Ok frame → records_of big at bytes ≡ seen (λ frames. frame ∷ frames) (records_of big (at + (16 + length frame)) (drop (16 + length frame) bytes))
+pub records_of-more : (big : Bool) (at : ℕ) (bytes frame : List ℕ) → 0 < length bytes → frame_of big at bytes ≡ Ok frame → records_of big at bytes ≡ map_ok (λ frames. frame ∷ frames) (records_of big (at + (16 + length frame)) (drop (16 + length frame) bytes))
 unfolding records_of
 records_of-more big at [] frame some read = absurd (omega arith)
 records_of-more big at (b ∷ bs) frame some read =
     let rest = drop (16 + length frame) (b ∷ bs) in
-    ap (λ first. first >>= λ x. (records_within (length bs) big (at + (16 + length x)) (drop (16 + length x) (b ∷ bs)) >>= λ frames. Ok (x ∷ frames))) read ∙ (bind_cons frame (records_within (length bs) big (at + (16 + length frame)) rest) ∙ ap (seen (λ frames. frame ∷ frames)) (records_within-enough (length bs) (length rest) big (at + (16 + length frame)) rest (shorter b bs frame (length bs) (omega arith)) (omega arith)))
+    ap (λ first. first >>= λ x. (records_within (length bs) big (at + (16 + length x)) (drop (16 + length x) (b ∷ bs)) >>= λ frames. Ok (x ∷ frames))) read ∙ (bind_cons frame (records_within (length bs) big (at + (16 + length frame)) rest) ∙ ap (map_ok (λ frames. frame ∷ frames)) (records_within-enough (length bs) (length rest) big (at + (16 + length frame)) rest (shorter b bs frame (length bs) (omega arith)) (omega arith)))
 
 -- a record at fault
 pub records_of-bad : (big : Bool) (at : ℕ) (bytes : List ℕ) (fault : CaptureErr) → 0 < length bytes → frame_of big at bytes ≡ Err fault → records_of big at bytes ≡ Err fault
@@ -61,12 +61,12 @@ bind_err : (read : Result (List ℕ) CaptureErr) (fault : CaptureErr) → Err fa
 bind_err (Ok x) fault same = absurd (cc)
 bind_err (Err e) fault same = cc
 
-pub next_of-more : (big : Bool) (file : List ℕ) (at : ℕ) (frame : List ℕ) → at ≤ length file → Ok (Some frame) ≡ next_of big file at → records_of big at (drop at file) ≡ seen (λ frames. frame ∷ frames) (records_of big (at + (16 + length frame)) (drop (at + (16 + length frame)) file))
+pub next_of-more : (big : Bool) (file : List ℕ) (at : ℕ) (frame : List ℕ) → at ≤ length file → Ok (Some frame) ≡ next_of big file at → records_of big at (drop at file) ≡ map_ok (λ frames. frame ∷ frames) (records_of big (at + (16 + length frame)) (drop (at + (16 + length frame)) file))
 unfolding next_of
 next_of-more big file at frame within next =
     ⊎_elim (λ end. absurd (cc))
     (λ other. let read = bind_some (frame_of big at (drop at file)) frame (next ∙ cond-false _ _ _ other) in
-    records_of-more big at (drop at file) frame (some_left file at within other) read ∙ ap (λ rest. seen (λ frames. frame ∷ frames) (records_of big (at + (16 + length frame)) rest)) (drop-drop (16 + length frame) at file))
+    records_of-more big at (drop at file) frame (some_left file at within other) read ∙ ap (λ rest. map_ok (λ frames. frame ∷ frames) (records_of big (at + (16 + length frame)) rest)) (drop-drop (16 + length frame) at file))
     (cases_Bool (eqb at (length file)))
 
 pub next_of-bad : (big : Bool) (file : List ℕ) (at : ℕ) (fault : CaptureErr) → at ≤ length file → Err fault ≡ next_of big file at → records_of big at (drop at file) ≡ Err fault
@@ -84,11 +84,11 @@ next_of-end big file at within next =
     (cases_Bool (eqb at (length file)))
 
 -- one frame counted, and one frame appended
-pub count-more : (count : ℕ) (frame : List ℕ) (read : Result (List (List ℕ)) CaptureErr) → seen (λ frames. count + 1 + length frames) read ≡ seen (λ frames. count + length frames) (seen (λ frames. frame ∷ frames) read)
+pub count-more : (count : ℕ) (frame : List ℕ) (read : Result (List (List ℕ)) CaptureErr) → map_ok (λ frames. count + 1 + length frames) read ≡ map_ok (λ frames. count + length frames) (map_ok (λ frames. frame ∷ frames) read)
 count-more count frame (Ok frames) = let same : count + 1 + length frames ≡ count + length (frame ∷ frames) = omega arith in ap Ok same
 count-more count frame (Err e) = refl
 
-pub front-more : (front : List (List ℕ)) (frame : List ℕ) (read : Result (List (List ℕ)) CaptureErr) → with_front (front ++ frame ∷ []) read ≡ with_front front (seen (λ frames. frame ∷ frames) read)
+pub front-more : (front : List (List ℕ)) (frame : List ℕ) (read : Result (List (List ℕ)) CaptureErr) → with_front (front ++ frame ∷ []) read ≡ with_front front (map_ok (λ frames. frame ∷ frames) read)
 front-more front frame (Ok frames) = ap Ok (append_assoc front (frame ∷ []) frames)
 front-more front frame (Err e) = refl
 

@@ -1,19 +1,19 @@
 -- The header of a capture file, after the published pcap 2.4 format. Its numbers are in the byte order that the file's
 -- writer chose, which its first four bytes tell, with the unit of time.
-use Rattle.std.specs.Prelude.{◌≡◌, ℕ, ◌%◌, ◌==◌, ◌&&◌, Bool, true, false, if◌then◌else◌, nat_lt, List, [], ◌∷◌, length, take, drop, Option, Some, None, Result, Ok, Err}
-use Rattle.std.specs.Int.{w16, w32, from_be_bytes, from_le_bytes}
+use Rattle.std.specs.Prelude.{◌≡◌, ℕ, ◌%◌, ◌==◌, ◌&&◌, Bool, true, false, if◌then◌else◌, nat_lt, List, [], ◌∷◌, length, take, Option, Some, None, Result, Ok, Err}
 use Rattle.std.specs.Str.{bytes_eq}
+use Rattle.byte_numbers.specs.Numbers.{le16_at, le32_at, be16_at, be32_at}
 use Rattle.capture.specs.declared.error.CaptureErr.{CaptureErr}
 use Rattle.capture.specs.declared.error.CaptureErr.TheVariants.{Truncated, Magic, Version, LinkType}
 use Rattle.capture.specs.declared.header.CaptureHeader.{CaptureHeader}
 
--- the 16-bit number that bytes begin with, in the file's byte order
-unfoldable pub number16 : Bool → List ℕ → ℕ
-number16 big bytes = if big then from_be_bytes w16 bytes else from_le_bytes w16 bytes
+-- the 16-bit number at a place, in the file's byte order
+unfoldable pub number16_at : Bool → List ℕ → ℕ → ℕ
+number16_at big bytes place = if big then be16_at bytes place else le16_at bytes place
 
--- the 32-bit number that bytes begin with, in the file's byte order
-unfoldable pub number32 : Bool → List ℕ → ℕ
-number32 big bytes = if big then from_be_bytes w32 bytes else from_le_bytes w32 bytes
+-- the 32-bit number at a place, in the file's byte order
+unfoldable pub number32_at : Bool → List ℕ → ℕ → ℕ
+number32_at big bytes place = if big then be32_at bytes place else le32_at bytes place
 
 -- the first four bytes of a file in that byte order, which counts nanoseconds or microseconds
 abbrev pub magic : Bool → Bool → List ℕ
@@ -24,11 +24,11 @@ magic true true = 0xa1 ∷ 0xb2 ∷ 0x3c ∷ 0x4d ∷ []
 
 -- the version is 2.4
 unfoldable pub is_version_2_4 : Bool → List ℕ → Bool
-is_version_2_4 big bytes = (number16 big (drop 4 bytes) == 2) && (number16 big (drop 6 bytes) == 4)
+is_version_2_4 big bytes = (number16_at big bytes 4 == 2) && (number16_at big bytes 6 == 4)
 
 -- the link type, the low 16 bits of the header's last number
 unfoldable pub link_type : Bool → List ℕ → ℕ
-link_type big bytes = number32 big (drop 20 bytes) % 65536
+link_type big bytes = number32_at big bytes 20 % 65536
 
 -- Good header: 24 bytes with a known magic, version 2.4 and the link type of Ethernet. The other numbers are ignored:
 -- the zone, the accuracy of times, and how many bytes of each frame were kept.

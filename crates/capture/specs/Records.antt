@@ -2,22 +2,22 @@
 use Rattle.std.specs.Prelude.{◌≡◌, ℕ, zero, suc, ◌+◌, ◌≤◌, ◌==◌, Bool, if◌then◌else◌, nat_lt, List, [], ◌∷◌, ◌++◌, length, take, drop, Option, Some, None, Result, Ok, Err}
 use Rattle.capture.specs.declared.error.CaptureErr.{CaptureErr}
 use Rattle.capture.specs.declared.error.CaptureErr.TheVariants.{Truncated, TooLong}
-use Rattle.capture.specs.FileHeaders.{number32}
+use Rattle.capture.specs.FileHeaders.{number32_at}
 
 infixl 10 ◌>>=◌
 abbrev pub ◌>>=◌ : {A B : Type 0} → Result A CaptureErr → (A → Result B CaptureErr) → Result B CaptureErr
 (Ok x) >>= f = f x
 (Err e) >>= f = Err e
 
--- a result, its value seen by a function
-abbrev pub seen : {A B E : Type 0} → (A → B) → Result A E → Result B E
-seen view (Ok x) = Ok (view x)
-seen view (Err e) = Err e
+-- a result, with a function of its value in the place of the value
+abbrev pub map_ok : {A B E : Type 0} → (A → B) → Result A E → Result B E
+map_ok view (Ok x) = Ok (view x)
+map_ok view (Err e) = Err e
 
 -- the number of bytes of a record's frame that the file holds, the third of the record's four numbers; the others, its
 -- time and the frame's length on the wire, are ignored
 unfoldable pub captured_length : Bool → List ℕ → ℕ
-captured_length big bytes = number32 big (drop 8 bytes)
+captured_length big bytes = number32_at big bytes 8
 
 -- the frame of the record that the bytes begin with, which stands at an offset, or the record's first fault
 unfoldable pub frame_of : Bool → ℕ → List ℕ → Result (List ℕ) CaptureErr
@@ -49,7 +49,7 @@ records_of big at bytes = records_within (length bytes) big at bytes
 
 -- what reading records gives, behind the frames of those before them
 abbrev pub with_front : List (List ℕ) → Result (List (List ℕ)) CaptureErr → Result (List (List ℕ)) CaptureErr
-with_front front read = seen (λ frames. front ++ frames) read
+with_front front read = map_ok (λ frames. front ++ frames) read
 
 -- The first 16 bytes of a frame's record.
 pub record IsRecordHead (big : Bool) (head frame : List ℕ) : Type 0 where

@@ -4,7 +4,7 @@ ghost use Rattle.std.specs.Prelude.{◌≡◌, ◌≤◌, length, OnOk};
 ghost use Rattle.capture.specs.FileHeaders.{header_of, kind_of_magic, is_version_2_4, link_type};
 
 use crate::error::CaptureErr;
-use crate::number::{u16_of, u32_of};
+use crate::number::{number16_at, number32_at};
 
 /// How many bytes a header has.
 pub const HEADER_SIZE: usize = 24;
@@ -89,7 +89,7 @@ fn is_version_2_4(bytes: &[u8], big: bool) -> bool
     requires { 24 ≤ length bytes.now }
     ensures { result ≡ is_version_2_4 big bytes.now }
 {
-    u16_of(&bytes[4..], big) == 2 && u16_of(&bytes[6..], big) == 4
+    number16_at(bytes, 4, big) == 2 && number16_at(bytes, 6, big) == 4
 }
 
 #[tactic(auto, unfolding(crate::specs::FileHeaders::link_type))]
@@ -97,5 +97,5 @@ fn link_type(bytes: &[u8], big: bool) -> u32
     requires { 24 ≤ length bytes.now }
     ensures { result ≡ link_type big bytes.now }
 {
-    u32_of(&bytes[20..], big) & 0xffff
+    number32_at(bytes, 20, big) & 0xffff
 }

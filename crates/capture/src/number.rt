@@ -1,32 +1,32 @@
 //! Numbers in the byte order of a capture.
 
-ghost use Rattle.std.specs.Prelude.{◌≡◌, ◌≤◌, length};
-ghost use Rattle.capture.specs.FileHeaders.{number16, number32};
+ghost use Rattle.std.specs.Prelude.{◌≡◌, ◌+◌, ◌≤◌, length};
+ghost use Rattle.capture.specs.FileHeaders.{number16_at, number32_at};
 
-/// The 16-bit number that the bytes begin with.
-#[tactic(auto, unfolding(crate::specs::FileHeaders::number16))]
-pub fn u16_of(bytes: &[u8], big: bool) -> u16
-    requires { 2 ≤ length bytes.now }
-    ensures { result ≡ number16 big bytes.now }
+use byte_numbers::{be16_at, be32_at, le16_at, le32_at};
+
+/// The 16-bit number at a place.
+#[tactic(auto, unfolding(crate::specs::FileHeaders::number16_at))]
+pub fn number16_at(bytes: &[u8], place: usize, big: bool) -> u16
+    requires { place + 2 ≤ length bytes.now }
+    ensures { result ≡ number16_at big bytes.now place }
 {
-    let two = [bytes[0], bytes[1]];
     if big {
-        u16::from_be_bytes(two)
+        be16_at(bytes, place)
     } else {
-        u16::from_le_bytes(two)
+        le16_at(bytes, place)
     }
 }
 
-/// The 32-bit number that the bytes begin with.
-#[tactic(auto, unfolding(crate::specs::FileHeaders::number32))]
-pub fn u32_of(bytes: &[u8], big: bool) -> u32
-    requires { 4 ≤ length bytes.now }
-    ensures { result ≡ number32 big bytes.now }
+/// The 32-bit number at a place.
+#[tactic(auto, unfolding(crate::specs::FileHeaders::number32_at))]
+pub fn number32_at(bytes: &[u8], place: usize, big: bool) -> u32
+    requires { place + 4 ≤ length bytes.now }
+    ensures { result ≡ number32_at big bytes.now place }
 {
-    let four = [bytes[0], bytes[1], bytes[2], bytes[3]];
     if big {
-        u32::from_be_bytes(four)
+        be32_at(bytes, place)
     } else {
-        u32::from_le_bytes(four)
+        le32_at(bytes, place)
     }
 }

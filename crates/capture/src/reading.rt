@@ -1,7 +1,7 @@
 //! All frames of a capture.
 
 ghost use Rattle.std.specs.Prelude.{◌≡◌, ◌+◌, ◌*◌, ◌≤◌, [], ◌++◌, length, drop, IfOk, Err, MatchResult};
-ghost use Rattle.capture.specs.Records.{seen, with_front, records_of};
+ghost use Rattle.capture.specs.Records.{map_ok, with_front, records_of};
 ghost use Rattle.capture.specs.Captures.{Refuses, GivesFrames, IsCaptureBad, capture_of};
 
 use crate::error::{CaptureErr, FramesErr};
@@ -30,7 +30,7 @@ pub fn read_frames(alloc: Global, bytes: &[u8]) -> Result<Frames, FramesErr>
 #[tactic(auto, using(crate::proofs::RecordLemmas::reading))]
 fn count_frames(bytes: &[u8], header: &CaptureHeader) -> Result<usize, CaptureErr>
     requires { 24 ≤ length bytes.now }
-    ensures count { result ≡ seen length (records_of header.now.big 24 (drop 24 bytes.now)) }
+    ensures count { result ≡ map_ok length (records_of header.now.big 24 (drop 24 bytes.now)) }
     ensures room { IfOk result (λ count. 24 + 16 * count ≤ length bytes.now) }
 {
     let mut count = 0;

@@ -2,11 +2,11 @@
 
 ghost use Rattle.std.specs.Prelude.{◌≡◌, ◌+◌, ◌≤◌, ◌↔◌, length, IfOk, IfSome, Ok, None};
 ghost use Rattle.std.specs.Option.{option_copied};
-ghost use Rattle.capture.specs.Records.{seen, frame_of, next_of};
+ghost use Rattle.capture.specs.Records.{map_ok, frame_of, next_of};
 
 use crate::error::CaptureErr;
 use crate::header::CaptureHeader;
-use crate::number::u32_of;
+use crate::number::number32_at;
 
 /// How many bytes a record has before its frame.
 pub const RECORD_SIZE: usize = 16;
@@ -25,7 +25,7 @@ pub fn next_frame<'a>(
 ) -> Result<Option<&'a [u8]>, CaptureErr>
     requires from { 24 ≤ at }
     requires within { at ≤ length bytes.now }
-    ensures value { seen option_copied result ≡ next_of header.now.big bytes.now at }
+    ensures value { map_ok option_copied result ≡ next_of header.now.big bytes.now at }
     ensures end { (result ≡ Ok None) ↔ (at ≡ length bytes.now) }
     ensures next { IfOk result (λ found. IfSome found (λ frame. at + 16 + length frame.now ≤ length bytes.now)) }
 {
@@ -39,13 +39,13 @@ pub fn next_frame<'a>(
 /// The frame of the record that the bytes begin with.
 #[tactic(auto, unfolding(crate::specs::Records::frame_of, crate::specs::Records::captured_length))]
 fn first_frame(bytes: &[u8], big: bool, at: u64) -> Result<&[u8], CaptureErr>
-    ensures value { seen (λ frame. frame.now) result ≡ frame_of big at bytes.now }
+    ensures value { map_ok (λ frame. frame.now) result ≡ frame_of big at bytes.now }
     ensures within { IfOk result (λ frame. 16 + length frame.now ≤ length bytes.now) }
 {
     if bytes.len() < RECORD_SIZE {
         return Err(CaptureErr::Truncated(at));
     }
-    let size = u32_of(&bytes[8..], big) as usize;
+    let size = number32_at(bytes, 8, big) as usize;
     if size > LONGEST_FRAME {
         return Err(CaptureErr::TooLong(at));
     }

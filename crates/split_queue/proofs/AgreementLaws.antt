@@ -3,12 +3,13 @@ use Rattle.std.proofs.Common.{◌≡◌, ℕ, ◌+◌, ◌-◌, ◌^◌, ◌<◌
 use Rattle.std.specs.Int.{from_le_bytes, w16}
 use Rattle.std.specs.List.{All}
 use Rattle.std.proofs.lemmas.List.{length-reverse, get_or-reverse}
+use Rattle.byte_numbers.proofs.NumberLaws.{le16_at-same}
 use Rattle.guest_mem.specs.Memory.{bytes_at, ChangesOnly}
 use Rattle.guest_mem.proofs.Bytes.{get_or-bytes_at}
 use Rattle.guest_mem.proofs.Changes.{changes-wider}
 use Rattle.split_queue.specs.Agreement.{Agree, IsInQueue, IsClearOf, KeepsQueue, Round, IsRound, after_round}
 use Rattle.split_queue.specs.Chains.{IsInPieces}
-use Rattle.split_queue.specs.Descriptors.{le16_at}
+use Rattle.byte_numbers.specs.Numbers.{le16_at}
 use Rattle.split_queue.specs.DeviceEnds.{DeviceEndState, device_start, after_pop, after_push}
 use Rattle.split_queue.specs.DriverEnds.{DriverEndState, IsValidDriver, chain_numbers, with_descriptors, with_post, pool_after_post, after_post, take_answer, after_take}
 use Rattle.split_queue.specs.QueuePlaces.{available_idx_addr, available_bytes, used_bytes, used_idx_addr}
@@ -20,7 +21,7 @@ use Rattle.split_queue.specs.declared.chain.Piece.{Piece}
 use Rattle.split_queue.specs.declared.setup.Area.{Area}
 use Rattle.split_queue.proofs.ReleaseLaws.{after_release-free}
 use Rattle.split_queue.proofs.PoolLaws.{free_at}
-use Rattle.split_queue.proofs.ReadLaws.{le16_at-same, le16_at-outside}
+use Rattle.split_queue.proofs.ReadLaws.{le16_at-outside}
 use Rattle.split_queue.proofs.RingLaws.{index_after-small, with_descriptors-changes, with_available_entry-changes, with_available_entry-idx, HasElement, with_used_entry-changes, with_used_entry-element, free-below, first-is-owned, post-accepted, take_answer-element}
 
 -- ---- a fresh queue
@@ -54,9 +55,9 @@ agree-kept driver device before after agree kept = record {
   place = agree.place;
   driver_memory = agree.driver_memory ∙ sym kept.size;
   device_memory = agree.device_memory ∙ sym kept.size;
-  available_idx = le16_at-same before after (available_idx_addr driver.place) kept.size (λ k low high. kept.others k (λ outside. outside (inr (inl (omega arith, omega arith))))) ∙ agree.available_idx;
+  available_idx = le16_at-same before after (available_idx_addr driver.place) (record { same = λ k low high. kept.others k (λ outside. outside (inr (inl (omega arith, omega arith)))) }) ∙ agree.available_idx;
   available_next = agree.available_next;
-  used_idx = le16_at-same before after (used_idx_addr driver.place) kept.size (λ k low high. kept.others k (λ outside. outside (inr (inr (omega arith, omega arith))))) ∙ agree.used_idx;
+  used_idx = le16_at-same before after (used_idx_addr driver.place) (record { same = λ k low high. kept.others k (λ outside. outside (inr (inr (omega arith, omega arith)))) }) ∙ agree.used_idx;
   used_next = agree.used_next;
   available_small = agree.available_small;
   used_small = agree.used_small;
@@ -77,8 +78,8 @@ pieces-keep before after place pieces changes clear = changes-wider before after
 le16_at-apart : (before after : List ℕ) (one other : Area) (addr : ℕ) → ChangesOnly before after (IsInArea one) → LieApart one other → other.start ≤ addr → addr + 2 ≤ other.start + other.len → le16_at after addr ≡ le16_at before addr
 le16_at-apart before after one other addr changes apart low high = le16_at-outside before after one.start one.len addr changes (elim apart [ inl l ↦ inr (omega arith) | inr r ↦ inl (omega arith) ])
 
-flipped : {A B : Type 0} → A ⊎ B → B ⊎ A
-flipped either = elim either [ inl a ↦ inr a | inr b ↦ inl b ]
+apart-sym : {A B : Type 0} → A ⊎ B → B ⊎ A
+apart-sym either = elim either [ inl a ↦ inr a | inr b ↦ inl b ]
 
 -- after a post and the pop of its chain
 module _ (driver : DriverEndState) (device : DeviceEndState) (end : IsValidDriver driver) (before : List ℕ) (pieces : List Piece) (readable : ℕ) (agree : Agree driver device before) where
@@ -140,7 +141,7 @@ module _ (driver : DriverEndState) (device : DeviceEndState) (placed : IsPlaced 
     place = agree.place;
     driver_memory = agree.driver_memory ∙ sym element-changes.size;
     device_memory = agree.device_memory ∙ sym element-changes.size;
-    available_idx = le16_at-apart mem push_memory (used_area driver.place) (available_area driver.place) (available_idx_addr driver.place) element-changes (flipped placed.available_used) (omega arith) (omega arith) ∙ agree.available_idx;
+    available_idx = le16_at-apart mem push_memory (used_area driver.place) (available_area driver.place) (available_idx_addr driver.place) element-changes (apart-sym placed.available_used) (omega arith) (omega arith) ∙ agree.available_idx;
     available_next = agree.available_next;
     used_idx = has.idx;
     used_next = ap index_after agree.used_next;

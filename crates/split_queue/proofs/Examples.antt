@@ -1,7 +1,8 @@
 -- The definitions at worked examples.
 use Rattle.std.proofs.Common.{◌≡◌, ℕ, List, [], ◌∷◌, ◌++◌, replicate, Some, None, Ok, Err, refl}
 use Rattle.std.specs.Int.Count.{ones}
-use Rattle.split_queue.specs.Descriptors.{le16_at, le32_at, le64_at, descriptor_at, with_le16, with_le32}
+use Rattle.byte_numbers.specs.Numbers.{le16_at, le32_at, le64_at}
+use Rattle.split_queue.specs.Descriptors.{descriptor_at, with_le16, with_le32}
 use Rattle.split_queue.specs.DeviceEnds.{pop_answer}
 use Rattle.split_queue.specs.Rings.{with_used_entry}
 use Rattle.split_queue.specs.Setup.{setup_fault}

@@ -4,6 +4,7 @@ use Rattle.std.specs.List.{All, flat_map}
 use Rattle.std.proofs.lemmas.Bool.{cond-false, ne_eqb, le-ltb, lt-leb}
 use Rattle.std.proofs.lemmas.List.{get_or-take}
 use Rattle.std.proofs.lemmas.List.Elements.{All-head, All-tail, All-take}
+use Rattle.byte_numbers.proofs.NumberLaws.{HaveSame}
 use Rattle.guest_mem.specs.Memory.{bytes_at, ChangesOnly}
 use Rattle.guest_mem.proofs.Bytes.{bytes_at-same}
 use Rattle.guest_mem.proofs.Changes.{changes-then}
@@ -36,9 +37,9 @@ bytes_stay before after place (piece ∷ pieces) changes clear =
     ap (λ xs. xs ++ flat_map (λ (p : Piece). bytes_at after p.addr p.len) pieces) here ∙ ap (λ xs. bytes_at before piece.addr piece.len ++ xs) later
 
 -- a pop where one chain was made available
-popped_next : (mem : List ℕ) (place : Place) (index head : ℕ) (chain : Chain) → index < 2 ^ 16 → 0 < place.size → head < place.size → available_idx mem place ≡ index_after index → available_head mem place index ≡ head → chain_of mem place head ≡ Ok chain → pop_answer mem place index ≡ Ok (Some chain)
+pop_answer-next : (mem : List ℕ) (place : Place) (index head : ℕ) (chain : Chain) → index < 2 ^ 16 → 0 < place.size → head < place.size → available_idx mem place ≡ index_after index → available_head mem place index ≡ head → chain_of mem place head ≡ Ok chain → pop_answer mem place index ≡ Ok (Some chain)
 unfolding pop_answer
-popped_next mem place index head chain small some below idx slot found =
+pop_answer-next mem place index head chain small some below idx slot found =
     let moved : index_after index ≢ index = λ same. omega (arith, same) in
     let gap : index_gap index (index_after index) ≤ place.size = omega arith in
     rw (idx, slot) (cond-false _ _ _ (ne_eqb _ _ moved) ∙ cond-false _ _ _ (le-ltb _ _ gap) ∙ ap as_pop_answer (cond-false _ _ _ (lt-leb _ _ below) ∙ found))
@@ -75,13 +76,15 @@ module _ (mem : List ℕ) (place : Place) (owners : List (Option ℕ)) (index nu
     after-size : length after ≡ length mem
     after-size = queue-changes.size
 
-    table_stays : (k : ℕ) → place.desc ≤ k → k < place.desc + table_bytes place.size → get_or after k 0 ≡ get_or table_memory k 0
-    table_stays k low high = after-changes.others k (λ inside. elim placed.table_available [ inl l ↦ omega arith | inr g ↦ omega arith ])
+    table-same : HaveSame table_memory after place.desc (table_bytes place.size)
+    table-same = record {
+      same = λ k low high. after-changes.others k (λ inside. elim placed.table_available [ inl l ↦ omega arith | inr g ↦ omega arith ]);
+    }
 
     module _ (fields : All FitsFields pieces) (as_long : length numbers ≡ length later) (postable : ArePostable (length mem) place pieces readable) where
       -- the walk from the head gives the pieces, and so does a pop
       after-linked : AreLinked after place (number ∷ numbers) pieces readable
-      after-linked = AreLinked-same place owners same_size table_memory after (number ∷ numbers) pieces readable (after-size ∙ sym table_memory-size) table_stays free_list (with_descriptors-linked place owners same_size mem (number ∷ numbers) pieces readable small placed.table free_list fields)
+      after-linked = AreLinked-same place owners same_size table_memory after (number ∷ numbers) pieces readable table-same free_list (with_descriptors-linked place owners same_size mem (number ∷ numbers) pieces readable small placed.table free_list fields)
 
       after-chain : chain_of after place number ≡ Ok (chain_of_pieces mem number pieces readable)
       unfolding chain_of
@@ -102,21 +105,21 @@ module _ (mem : List ℕ) (place : Place) (owners : List (Option ℕ)) (index nu
       after-pop_answer : index < 2 ^ 16 → pop_answer after place index ≡ Ok (Some (chain_of_pieces mem number pieces readable))
       after-pop_answer index_small =
           let within : number < length owners = free_list.0 in
-          popped_next after place index number (chain_of_pieces mem number pieces readable) index_small placed.some (omega (arith, same_size)) (with_available_entry-idx table_memory place index number placed.some table_memory-placed.available) (with_available_entry-head table_memory place index number table_memory-placed (omega (arith, same_size))) after-chain
+          pop_answer-next after place index number (chain_of_pieces mem number pieces readable) index_small placed.some (omega (arith, same_size)) (with_available_entry-idx table_memory place index number placed.some table_memory-placed.available) (with_available_entry-head table_memory place index number table_memory-placed (omega (arith, same_size))) after-chain
 
 -- ---- a posted chain
 
 -- the same of any numbers and pieces of one length
-numbers_popped : (mem : List ℕ) (place : Place) (owners : List (Option ℕ)) (index : ℕ) (numbers : List ℕ) (pieces : List Piece) (readable : ℕ) → IsPlaced place (length mem) → length owners ≡ place.size → place.size < 2 ^ 16 → AreFree owners numbers → All FitsFields pieces → length numbers ≡ length pieces → 0 < length pieces → ArePostable (length mem) place pieces readable → index < 2 ^ 16 → pop_answer (with_available_entry (with_descriptors mem place numbers pieces readable) place index (get_or numbers 0 0)) place index ≡ Ok (Some (chain_of_pieces mem (get_or numbers 0 0) pieces readable))
-numbers_popped mem place owners index numbers [] readable placed same_size small free_list fields as_long some postable index_small = absurd (omega arith)
-numbers_popped mem place owners index [] (piece ∷ later) readable placed same_size small free_list fields as_long some postable index_small = absurd (omega (arith, as_long))
-numbers_popped mem place owners index (number ∷ numbers) (piece ∷ later) readable placed same_size small free_list fields as_long some postable index_small = after-pop_answer mem place owners index number numbers piece later readable placed same_size small free_list fields (omega (arith, as_long)) postable index_small
+pop_answer-numbers : (mem : List ℕ) (place : Place) (owners : List (Option ℕ)) (index : ℕ) (numbers : List ℕ) (pieces : List Piece) (readable : ℕ) → IsPlaced place (length mem) → length owners ≡ place.size → place.size < 2 ^ 16 → AreFree owners numbers → All FitsFields pieces → length numbers ≡ length pieces → 0 < length pieces → ArePostable (length mem) place pieces readable → index < 2 ^ 16 → pop_answer (with_available_entry (with_descriptors mem place numbers pieces readable) place index (get_or numbers 0 0)) place index ≡ Ok (Some (chain_of_pieces mem (get_or numbers 0 0) pieces readable))
+pop_answer-numbers mem place owners index numbers [] readable placed same_size small free_list fields as_long some postable index_small = absurd (omega arith)
+pop_answer-numbers mem place owners index [] (piece ∷ later) readable placed same_size small free_list fields as_long some postable index_small = absurd (omega (arith, as_long))
+pop_answer-numbers mem place owners index (number ∷ numbers) (piece ∷ later) readable placed same_size small free_list fields as_long some postable index_small = after-pop_answer mem place owners index number numbers piece later readable placed same_size small free_list fields (omega (arith, as_long)) postable index_small
 
 -- what was posted is popped, where the ends agree
-pub posted_pops : (mem : List ℕ) (end : DriverEndState) (device : DeviceEndState) (pieces : List Piece) (readable : ℕ) → 0 < length pieces → length pieces ≤ length end.pool.free → IsPlaced end.place (length mem) → length end.pool.owners ≡ end.place.size → length end.pool.owners < 2 ^ 16 → AreFree end.pool.owners end.pool.free → All (λ p. p.len < 2 ^ 32) pieces → Agree end device mem → ArePostable (length mem) end.place pieces readable → pop_answer (with_post mem end pieces readable) device.place device.next ≡ Ok (Some (chain_of_pieces mem (get_or (reverse end.pool.free) 0 0) pieces readable))
-posted_pops mem end device pieces readable some enough placed same_size small free_list lens agree postable =
+pub post-pops : (mem : List ℕ) (end : DriverEndState) (device : DeviceEndState) (pieces : List Piece) (readable : ℕ) → 0 < length pieces → length pieces ≤ length end.pool.free → IsPlaced end.place (length mem) → length end.pool.owners ≡ end.place.size → length end.pool.owners < 2 ^ 16 → AreFree end.pool.owners end.pool.free → All (λ p. p.len < 2 ^ 32) pieces → Agree end device mem → ArePostable (length mem) end.place pieces readable → pop_answer (with_post mem end pieces readable) device.place device.next ≡ Ok (Some (chain_of_pieces mem (get_or (reverse end.pool.free) 0 0) pieces readable))
+post-pops mem end device pieces readable some enough placed same_size small free_list lens agree postable =
     let numbers = chain_numbers (length pieces) end.pool.free in
     let first : get_or numbers 0 0 ≡ get_or (reverse end.pool.free) 0 0 = get_or-take (length pieces) (reverse end.pool.free) 0 0 some in
     let fields : All FitsFields pieces = λ k d below. let inside = postable.inside k d below in record { addr = omega (arith, inside, placed.short); len = lens k d below } in
     rw (agree.place, agree.available_next) (subst (λ head. pop_answer (with_available_entry (with_descriptors mem end.place numbers pieces readable) end.place end.next head) end.place end.next ≡ Ok (Some (chain_of_pieces mem head pieces readable))) first
-    (numbers_popped mem end.place end.pool.owners end.next numbers pieces readable placed same_size (omega arith) (AreFree-chain_numbers end.pool.owners (length pieces) end.pool.free free_list) fields (length-chain_numbers (length pieces) end.pool.free enough) some postable agree.available_small))
+    (pop_answer-numbers mem end.place end.pool.owners end.next numbers pieces readable placed same_size (omega arith) (AreFree-chain_numbers end.pool.owners (length pieces) end.pool.free free_list) fields (length-chain_numbers (length pieces) end.pool.free enough) some postable agree.available_small))

@@ -2,13 +2,14 @@
 use Rattle.std.proofs.Common.{◌≡◌, ◌≢◌, ℕ, ◌+◌, ◌-◌, ◌^◌, ◌<◌, ◌≤◌, ◌==◌, Bool, true, false, cond, List, [], ◌∷◌, length, get_or, Option, refl, ◌∙◌, arith}
 use Rattle.std.specs.List.{All, AllByRecursion}
 use Rattle.std.proofs.lemmas.List.Elements.{All-head, All-tail}
+use Rattle.byte_numbers.proofs.NumberLaws.{HaveSame, HaveSame-part, le16_at-same}
 use Rattle.split_queue.specs.Descriptors.{with_le16, descriptor_at, with_descriptor}
 use Rattle.split_queue.specs.DriverEnds.{piece_descriptor, with_descriptors}
 use Rattle.split_queue.specs.QueuePlaces.{available_slot_addr, available_idx_addr, descriptor_bytes, descriptor_addr, table_bytes}
 use Rattle.split_queue.specs.Pools.{AreFree}
 use Rattle.split_queue.specs.Rings.{available_head, index_after, with_available_entry}
 use Rattle.split_queue.specs.Setup.{IsPlaced}
-use Rattle.split_queue.proofs.ReadLaws.{le16_at-same, le16_at-with_le16, with_le16-changes, descriptor_at-same, descriptor_at-with_descriptor, with_descriptor-changes}
+use Rattle.split_queue.proofs.ReadLaws.{le16_at-with_le16, with_le16-changes, descriptor_at-same, descriptor_at-with_descriptor, with_descriptor-changes}
 use Rattle.split_queue.specs.declared.queue_place.Place.{Place}
 use Rattle.split_queue.specs.declared.descriptor.Descriptor.{Descriptor}
 use Rattle.split_queue.specs.declared.chain.Piece.{Piece}
@@ -41,8 +42,8 @@ module _ (place : Place) (owners : List (Option ℕ)) (same_size : length owners
   other_stays : (mem : List ℕ) (number other : ℕ) (d : Descriptor) → descriptor_addr place number + descriptor_bytes ≤ length mem → number ≢ other → descriptor_at (with_descriptor mem place number d) place other ≡ descriptor_at mem place other
   other_stays mem number other d inside ne =
       let changes = with_descriptor-changes mem place number d inside in
-      descriptor_at-same mem (with_descriptor mem place number d) place other changes.size
-      (λ k low high. changes.others k (λ inside. ne (omega arith)))
+      descriptor_at-same mem (with_descriptor mem place number d) place other
+      (record { same = λ k low high. changes.others k (λ inside. ne (omega arith)) })
 
   others_stay : (mem numbers : List ℕ) (pieces : List Piece) (readable other : ℕ) → place.desc + table_bytes place.size ≤ length mem → AreFree owners numbers → AllByRecursion (λ number. number ≢ other) numbers → descriptor_at (with_descriptors mem place numbers pieces readable) place other ≡ descriptor_at mem place other
   others_stay mem [] pieces readable other fits free_list apart = refl
@@ -69,13 +70,16 @@ module _ (place : Place) (owners : List (Option ℕ)) (same_size : length owners
       )
 
   -- and still is where the table stays
-  pub AreLinked-same : (before after numbers : List ℕ) (pieces : List Piece) (readable : ℕ) → length after ≡ length before → ((k : ℕ) → place.desc ≤ k → k < place.desc + table_bytes place.size → get_or after k 0 ≡ get_or before k 0) → AreFree owners numbers → AreLinked before place numbers pieces readable → AreLinked after place numbers pieces readable
-  AreLinked-same before after [] pieces readable size same free_list linked = tt
-  AreLinked-same before after (number ∷ numbers) [] readable size same free_list linked = tt
-  AreLinked-same before after (number ∷ numbers) (piece ∷ pieces) readable size same free_list linked =
+  pub AreLinked-same : (before after numbers : List ℕ) (pieces : List Piece) (readable : ℕ)
+      → HaveSame before after place.desc (table_bytes place.size) → AreFree owners numbers
+      → AreLinked before place numbers pieces readable → AreLinked after place numbers pieces readable
+  AreLinked-same before after [] pieces readable have free_list linked = tt
+  AreLinked-same before after (number ∷ numbers) [] readable have free_list linked = tt
+  AreLinked-same before after (number ∷ numbers) (piece ∷ pieces) readable have free_list linked =
       let within : number < length owners = free_list.0 in (
-        descriptor_at-same before after place number size (λ k low high. same k (omega arith) (omega arith)) ∙ linked.0,
-        AreLinked-same before after numbers pieces (readable - 1) size same free_list.3 linked.1,
+        descriptor_at-same before after place number (HaveSame-part before after place.desc (table_bytes place.size) (descriptor_addr place number) descriptor_bytes (omega arith) (omega arith) have)
+            ∙ linked.0,
+        AreLinked-same before after numbers pieces (readable - 1) have free_list.3 linked.1,
       )
 
 -- ---- the head in the available ring
@@ -87,4 +91,4 @@ with_available_entry-head mem place index head placed small =
     let now = with_le16 mem slot head in
     let first = with_le16-changes mem slot head (omega arith) in
     let second = with_le16-changes now (available_idx_addr place) (index_after index) (omega (arith, first.size)) in
-    le16_at-same now (with_le16 now (available_idx_addr place) (index_after index)) slot second.size (λ k low high. second.others k (λ inside. omega arith)) ∙ le16_at-with_le16 mem slot head (omega arith) small
+    le16_at-same now (with_le16 now (available_idx_addr place) (index_after index)) slot (record { same = λ k low high. second.others k (λ inside. omega arith) }) ∙ le16_at-with_le16 mem slot head (omega arith) small

@@ -1,62 +1,75 @@
 -- What is read of a memory in which a number, or a descriptor, was written.
 use Rattle.std.proofs.Common.{◌≡◌, ℕ, ◌+◌, ◌^◌, ◌<◌, ◌≤◌, ◌⊎◌, inl, inr, List, length, get_or, refl, ap, ◌∙◌, arith}
-use Rattle.std.specs.Int.{from_le_bytes, to_le_bytes, w16, w32, w64}
-use Rattle.std.proofs.lemmas.Nat.{from_le_bytes-to_le_bytes_2, from_le_bytes-to_le_bytes_4, from_le_bytes-to_le_bytes_8}
+use Rattle.std.specs.Int.{to_le_bytes, w16, w32, w64}
+use Rattle.byte_numbers.proofs.NumberLaws.{HaveSame, HaveSame-part, le16_at-same, le32_at-same, le64_at-same, le16_at-bytes, le32_at-bytes, le64_at-bytes}
 use Rattle.guest_mem.specs.Memory.{ChangesOnly, IsInRange}
 use Rattle.guest_mem.proofs.Changes.{changes-then}
-use Rattle.guest_mem.proofs.Bytes.{bytes_at-same, bytes_at-with_bytes, with_bytes-changes}
-use Rattle.split_queue.specs.Descriptors.{le16_at, le32_at, le64_at, with_le16, with_le32, with_le64, descriptor_at, with_descriptor}
+use Rattle.guest_mem.proofs.Bytes.{bytes_at-with_bytes, with_bytes-changes}
+use Rattle.byte_numbers.specs.Numbers.{le16_at, le32_at, le64_at}
+use Rattle.split_queue.specs.Descriptors.{with_le16, with_le32, with_le64, descriptor_at, with_descriptor}
 use Rattle.split_queue.specs.QueuePlaces.{descriptor_addr, descriptor_bytes}
 use Rattle.split_queue.specs.declared.queue_place.Place.{Place}
 use Rattle.split_queue.specs.declared.descriptor.Descriptor.{Descriptor}
 
 -- ---- a read depends on its bytes alone
 
-pub le16_at-same : (before after : List ℕ) (addr : ℕ) → length after ≡ length before → ((k : ℕ) → addr ≤ k → k < addr + 2 → get_or after k 0 ≡ get_or before k 0) → le16_at after addr ≡ le16_at before addr
-unfolding le16_at
-le16_at-same before after addr size same = ap (from_le_bytes w16) (bytes_at-same before after addr 2 size same)
-
-pub le32_at-same : (before after : List ℕ) (addr : ℕ) → length after ≡ length before → ((k : ℕ) → addr ≤ k → k < addr + 4 → get_or after k 0 ≡ get_or before k 0) → le32_at after addr ≡ le32_at before addr
-unfolding le32_at
-le32_at-same before after addr size same = ap (from_le_bytes w32) (bytes_at-same before after addr 4 size same)
-
-pub le64_at-same : (before after : List ℕ) (addr : ℕ) → length after ≡ length before → ((k : ℕ) → addr ≤ k → k < addr + 8 → get_or after k 0 ≡ get_or before k 0) → le64_at after addr ≡ le64_at before addr
-unfolding le64_at
-le64_at-same before after addr size same = ap (from_le_bytes w64) (bytes_at-same before after addr 8 size same)
-
-pub descriptor_at-same : (before after : List ℕ) (place : Place) (number : ℕ) → length after ≡ length before → ((k : ℕ) → descriptor_addr place number ≤ k → k < descriptor_addr place number + descriptor_bytes → get_or after k 0 ≡ get_or before k 0) → descriptor_at after place number ≡ descriptor_at before place number
+pub descriptor_at-same : (before after : List ℕ) (place : Place) (number : ℕ)
+    → HaveSame before after (descriptor_addr place number) descriptor_bytes
+    → descriptor_at after place number ≡ descriptor_at before place number
 unfolding descriptor_at
-descriptor_at-same before after place number size same =
+descriptor_at-same before after place number have =
     let start = descriptor_addr place number in
-    let addr : le64_at after start ≡ le64_at before start = le64_at-same before after start size (λ k low high. same k (omega arith) (omega arith)) in
-    let len : le32_at after (start + 8) ≡ le32_at before (start + 8) = le32_at-same before after (start + 8) size (λ k low high. same k (omega arith) (omega arith)) in
-    let flags : le16_at after (start + 12) ≡ le16_at before (start + 12) = le16_at-same before after (start + 12) size (λ k low high. same k (omega arith) (omega arith)) in
-    let next : le16_at after (start + 14) ≡ le16_at before (start + 14) = le16_at-same before after (start + 14) size (λ k low high. same k (omega arith) (omega arith)) in
-    rw (addr, len, flags, next) refl
+    let part = λ (at size : ℕ) (low : start ≤ at) (high : at + size ≤ start + descriptor_bytes).
+    HaveSame-part before after start descriptor_bytes at size low high have in
+    rw (
+      le64_at-same before after start (part start 8 (omega arith) (omega arith)),
+      le32_at-same before after (start + 8) (part (start + 8) 4 (omega arith) (omega arith)),
+      le16_at-same before after (start + 12) (part (start + 12) 2 (omega arith) (omega arith)),
+      le16_at-same before after (start + 14) (part (start + 14) 2 (omega arith) (omega arith)),
+    ) refl
 
--- a number that lies outside of what was changed
-pub le16_at-outside : (before after : List ℕ) (start count addr : ℕ) → ChangesOnly before after (IsInRange start count) → (addr + 2 ≤ start) ⊎ (start + count ≤ addr) → le16_at after addr ≡ le16_at before addr
-le16_at-outside before after start count addr changes apart = le16_at-same before after addr changes.size (λ k low high. changes.others k (λ inside. elim apart [ inl l ↦ omega arith | inr r ↦ omega arith ]))
+-- bytes that lie outside of what was changed
+HaveSame-outside : (before after : List ℕ) (start count addr size : ℕ) → ChangesOnly before after (IsInRange start count)
+    → (addr + size ≤ start) ⊎ (start + count ≤ addr) → HaveSame before after addr size
+HaveSame-outside before after start count addr size changes apart = record {
+  same = λ k low high. changes.others k (λ inside. elim apart [ inl l ↦ omega arith | inr r ↦ omega arith ]);
+}
 
-pub le32_at-outside : (before after : List ℕ) (start count addr : ℕ) → ChangesOnly before after (IsInRange start count) → (addr + 4 ≤ start) ⊎ (start + count ≤ addr) → le32_at after addr ≡ le32_at before addr
-le32_at-outside before after start count addr changes apart = le32_at-same before after addr changes.size (λ k low high. changes.others k (λ inside. elim apart [ inl l ↦ omega arith | inr r ↦ omega arith ]))
+-- and numbers there
+pub le16_at-outside : (before after : List ℕ) (start count addr : ℕ) → ChangesOnly before after (IsInRange start count)
+    → (addr + 2 ≤ start) ⊎ (start + count ≤ addr) → le16_at after addr ≡ le16_at before addr
+le16_at-outside before after start count addr changes apart =
+    le16_at-same before after addr (HaveSame-outside before after start count addr 2 changes apart)
 
-pub le64_at-outside : (before after : List ℕ) (start count addr : ℕ) → ChangesOnly before after (IsInRange start count) → (addr + 8 ≤ start) ⊎ (start + count ≤ addr) → le64_at after addr ≡ le64_at before addr
-le64_at-outside before after start count addr changes apart = le64_at-same before after addr changes.size (λ k low high. changes.others k (λ inside. elim apart [ inl l ↦ omega arith | inr r ↦ omega arith ]))
+pub le32_at-outside : (before after : List ℕ) (start count addr : ℕ) → ChangesOnly before after (IsInRange start count)
+    → (addr + 4 ≤ start) ⊎ (start + count ≤ addr) → le32_at after addr ≡ le32_at before addr
+le32_at-outside before after start count addr changes apart =
+    le32_at-same before after addr (HaveSame-outside before after start count addr 4 changes apart)
+
+le64_at-outside : (before after : List ℕ) (start count addr : ℕ) → ChangesOnly before after (IsInRange start count)
+    → (addr + 8 ≤ start) ⊎ (start + count ≤ addr) → le64_at after addr ≡ le64_at before addr
+le64_at-outside before after start count addr changes apart =
+    le64_at-same before after addr (HaveSame-outside before after start count addr 8 changes apart)
 
 -- ---- numbers that were written are read back, and nothing else changed
 
-pub le16_at-with_le16 : (mem : List ℕ) (addr n : ℕ) → addr + 2 ≤ length mem → n < 2 ^ 16 → le16_at (with_le16 mem addr n) addr ≡ n
-unfolding le16_at with_le16
-le16_at-with_le16 mem addr n inside small = ap (from_le_bytes w16) (bytes_at-with_bytes mem addr (to_le_bytes w16 n) inside) ∙ from_le_bytes-to_le_bytes_2 n small
+pub le16_at-with_le16 : (mem : List ℕ) (addr n : ℕ) → addr + 2 ≤ length mem → n < 2 ^ 16
+    → le16_at (with_le16 mem addr n) addr ≡ n
+unfolding with_le16
+le16_at-with_le16 mem addr n inside small =
+    le16_at-bytes (with_le16 mem addr n) addr n (bytes_at-with_bytes mem addr (to_le_bytes w16 n) inside) small
 
-pub le32_at-with_le32 : (mem : List ℕ) (addr n : ℕ) → addr + 4 ≤ length mem → n < 2 ^ 32 → le32_at (with_le32 mem addr n) addr ≡ n
-unfolding le32_at with_le32
-le32_at-with_le32 mem addr n inside small = ap (from_le_bytes w32) (bytes_at-with_bytes mem addr (to_le_bytes w32 n) inside) ∙ from_le_bytes-to_le_bytes_4 n small
+pub le32_at-with_le32 : (mem : List ℕ) (addr n : ℕ) → addr + 4 ≤ length mem → n < 2 ^ 32
+    → le32_at (with_le32 mem addr n) addr ≡ n
+unfolding with_le32
+le32_at-with_le32 mem addr n inside small =
+    le32_at-bytes (with_le32 mem addr n) addr n (bytes_at-with_bytes mem addr (to_le_bytes w32 n) inside) small
 
-pub le64_at-with_le64 : (mem : List ℕ) (addr n : ℕ) → addr + 8 ≤ length mem → n < 2 ^ 64 → le64_at (with_le64 mem addr n) addr ≡ n
-unfolding le64_at with_le64
-le64_at-with_le64 mem addr n inside small = ap (from_le_bytes w64) (bytes_at-with_bytes mem addr (to_le_bytes w64 n) inside) ∙ from_le_bytes-to_le_bytes_8 n small
+pub le64_at-with_le64 : (mem : List ℕ) (addr n : ℕ) → addr + 8 ≤ length mem → n < 2 ^ 64
+    → le64_at (with_le64 mem addr n) addr ≡ n
+unfolding with_le64
+le64_at-with_le64 mem addr n inside small =
+    le64_at-bytes (with_le64 mem addr n) addr n (bytes_at-with_bytes mem addr (to_le_bytes w64 n) inside) small
 
 pub with_le16-changes : (mem : List ℕ) (addr n : ℕ) → addr + 2 ≤ length mem → ChangesOnly mem (with_le16 mem addr n) (IsInRange addr 2)
 unfolding with_le16

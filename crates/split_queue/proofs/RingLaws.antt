@@ -7,7 +7,8 @@ use Rattle.std.proofs.lemmas.List.{get_or-set_same, get_or-set_other}
 use Rattle.std.proofs.lemmas.List.Elements.{All-head, All-tail}
 use Rattle.guest_mem.specs.Memory.{ChangesOnly, IsInRange}
 use Rattle.guest_mem.proofs.Changes.{changes-none, changes-then}
-use Rattle.split_queue.specs.Descriptors.{le16_at, le32_at, with_le16, with_le32, with_descriptor}
+use Rattle.byte_numbers.specs.Numbers.{le16_at, le32_at}
+use Rattle.split_queue.specs.Descriptors.{with_le16, with_le32, with_descriptor}
 use Rattle.split_queue.specs.DriverEnds.{DriverEndState, chain_numbers, piece_descriptor, with_descriptors, owners_with, post_answer, take_answer}
 use Rattle.split_queue.specs.QueuePlaces.{available_slot_addr, available_idx_addr, descriptor_addr, descriptor_bytes, table_bytes, available_bytes, used_bytes, used_idx_addr, used_element_addr}
 use Rattle.split_queue.specs.Pools.{PoolState, owner_of, AreFree}

@@ -1,21 +1,12 @@
--- Numbers in guest memory, and the descriptors of a queue's table (Virtio 1.4 draft, "The Virtqueue Descriptor Table").
--- All numbers are little endian.
+-- Numbers that are written into guest memory, and the descriptors of a queue's table (Virtio 1.4 draft, "The Virtqueue
+-- Descriptor Table"). All numbers are little endian.
 use Rattle.std.specs.Prelude.{ℕ, ◌+◌, ◌==◌, Bool, not, List, bit_and}
-use Rattle.std.specs.Int.{from_le_bytes, to_le_bytes, w16, w32, w64}
-use Rattle.guest_mem.specs.Memory.{bytes_at, with_bytes}
+use Rattle.std.specs.Int.{to_le_bytes, w16, w32, w64}
+use Rattle.byte_numbers.specs.Numbers.{le16_at, le32_at, le64_at}
+use Rattle.guest_mem.specs.Memory.{with_bytes}
 use Rattle.split_queue.specs.QueuePlaces.{descriptor_addr}
 use Rattle.split_queue.specs.declared.descriptor.Descriptor.{Descriptor}
 use Rattle.split_queue.specs.declared.queue_place.Place.{Place}
-
--- the number of 16, 32 or 64 bits at an address
-unfoldable pub le16_at : List ℕ → ℕ → ℕ
-le16_at mem addr = from_le_bytes w16 (bytes_at mem addr 2)
-
-unfoldable pub le32_at : List ℕ → ℕ → ℕ
-le32_at mem addr = from_le_bytes w32 (bytes_at mem addr 4)
-
-unfoldable pub le64_at : List ℕ → ℕ → ℕ
-le64_at mem addr = from_le_bytes w64 (bytes_at mem addr 8)
 
 -- the memory with a number of 16, 32 or 64 bits at an address
 unfoldable pub with_le16 : List ℕ → ℕ → ℕ → List ℕ

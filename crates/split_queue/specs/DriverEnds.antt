@@ -2,7 +2,8 @@
 -- descriptors a chain gets is this project's own).
 use Rattle.std.specs.Prelude.{◌≡◌, ℕ, ◌+◌, ◌-◌, ◌^◌, ◌<◌, ◌==◌, ◌⊎◌, nat_lt, if◌then◌else◌, List, [], ◌∷◌, length, take, reverse, slice_index, slice_set, Option, Some, None, Result, Ok, Err}
 use Rattle.guest_mem.specs.Memory.{IsInRange}
-use Rattle.split_queue.specs.Descriptors.{le32_at, with_descriptor, next_flag, write_flag}
+use Rattle.byte_numbers.specs.Numbers.{le32_at}
+use Rattle.split_queue.specs.Descriptors.{with_descriptor, next_flag, write_flag}
 use Rattle.split_queue.specs.QueuePlaces.{descriptor_bytes, descriptor_addr, used_element_addr}
 use Rattle.split_queue.specs.Pools.{PoolState, first_free, owner_of, is_chain_head, after_release, AreFree}
 use Rattle.split_queue.specs.Rings.{index_after, index_gap, with_available_entry, IsInAvailableEntry, used_idx}

@@ -2,7 +2,8 @@
 -- "The Virtqueue Available Ring" and "The Virtqueue Used Ring").
 use Rattle.std.specs.Prelude.{◌≡◌, ℕ, ◌+◌, ◌-◌, ◌%◌, ◌^◌, ◌⊎◌, List, slice_index}
 use Rattle.guest_mem.specs.Memory.{IsInRange, ChangesOnly}
-use Rattle.split_queue.specs.Descriptors.{le16_at, with_le16, with_le32}
+use Rattle.byte_numbers.specs.Numbers.{le16_at}
+use Rattle.split_queue.specs.Descriptors.{with_le16, with_le32}
 use Rattle.split_queue.specs.QueuePlaces.{available_slot_bytes, used_element_bytes, idx_bytes, available_idx_addr, available_slot_addr, used_idx_addr, used_element_addr}
 use Rattle.split_queue.specs.Setup.{available_area, used_area, IsInArea}
 use Rattle.split_queue.specs.declared.queue_place.Place.{Place}

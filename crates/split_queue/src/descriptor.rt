@@ -1,10 +1,11 @@
-//! A descriptor of a queue's table, and the numbers of the layout.
-ghost use Rattle.std.specs.Prelude.{◌≡◌, ◌+◌, ◌*◌, ◌<◌, ◌≤◌, length};
+//! A descriptor of a queue's table.
+ghost use Rattle.std.specs.Prelude.{◌≡◌, ◌<◌, length};
 ghost use Rattle.guest_mem.specs.Memory.{ChangesOnly, IsInRange};
-ghost use Rattle.split_queue.specs.Descriptors.{with_le16, with_le32, with_le64, with_descriptor, le16_at, le32_at, le64_at, descriptor_at, has_next, is_writable, is_indirect};
+ghost use Rattle.split_queue.specs.Descriptors.{with_descriptor, descriptor_at, has_next, is_writable, is_indirect};
 ghost use Rattle.split_queue.specs.QueuePlaces.{descriptor_bytes, descriptor_addr};
 ghost use Rattle.split_queue.specs.Setup.{IsPlaced};
 
+use crate::number::{bytes_at, le16_at, le32_at, put_bytes};
 use crate::queue_place::Place;
 use guest_mem::GuestMem;
 
@@ -28,7 +29,7 @@ pub(crate) struct Descriptor {
 
 impl Descriptor {
     /// The descriptor with a number, as it stands in the table.
-    #[tactic(auto, unfolding(crate::specs::Descriptors::descriptor_at))]
+    #[tactic(auto, unfolding(crate::specs::Descriptors::descriptor_at, byte_numbers::specs::Numbers::le64_at))]
     pub(crate) fn read(mem: &GuestMem, place: Place, number: u16) -> Descriptor
         requires placed { IsPlaced place (length mem.now) }
         requires number { number < place.size }
@@ -36,15 +37,15 @@ impl Descriptor {
     {
         let at = place.descriptor_addr(number);
         Descriptor {
-            addr: le64(mem, at),
-            len: le32(mem, at + 8),
-            flags: le16(mem, at + 12),
-            next: le16(mem, at + 14),
+            addr: u64::from_le_bytes(bytes_at(mem, at)),
+            len: le32_at(mem, at + 8),
+            flags: le16_at(mem, at + 12),
+            next: le16_at(mem, at + 14),
         }
     }
 
     /// Writes it into the table, at a number.
-    #[tactic(auto, unfolding(crate::specs::Descriptors::with_descriptor))]
+    #[tactic(auto, unfolding(crate::specs::Descriptors::with_descriptor, crate::specs::Descriptors::with_le16, crate::specs::Descriptors::with_le32, crate::specs::Descriptors::with_le64))]
     pub(crate) fn put(self, mem: &mut GuestMem, place: Place, number: u16)
         requires placed { IsPlaced place (length mem.old) }
         requires number { number < place.size }
@@ -52,10 +53,10 @@ impl Descriptor {
         ensures others { ChangesOnly mem.old mem.new (IsInRange (descriptor_addr place number) descriptor_bytes) }
     {
         let at = place.descriptor_addr(number);
-        put_le64(mem, at, self.addr);
-        put_le32(mem, at + 8, self.len);
-        put_le16(mem, at + 12, self.flags);
-        put_le16(mem, at + 14, self.next);
+        put_bytes(mem, at, &self.addr.to_le_bytes());
+        put_bytes(mem, at + 8, &self.len.to_le_bytes());
+        put_bytes(mem, at + 12, &self.flags.to_le_bytes());
+        put_bytes(mem, at + 14, &self.next.to_le_bytes());
     }
 
     /// Whether the chain goes on after it.
@@ -78,67 +79,4 @@ impl Descriptor {
     {
         self.flags & INDIRECT != 0
     }
-}
-
-/// The number of 16 bits at an address.
-#[tactic(auto, unfolding(crate::specs::Descriptors::le16_at))]
-pub(crate) fn le16(mem: &GuestMem, addr: u64) -> u16
-    requires { addr + 2 ≤ length mem.now }
-    ensures { result ≡ le16_at mem.now addr }
-{
-    let mut bytes = [0; 2];
-    mem.read(addr, &mut bytes).unwrap();
-    u16::from_le_bytes(bytes)
-}
-
-/// The number of 32 bits at an address.
-#[tactic(auto, unfolding(crate::specs::Descriptors::le32_at))]
-pub(crate) fn le32(mem: &GuestMem, addr: u64) -> u32
-    requires { addr + 4 ≤ length mem.now }
-    ensures { result ≡ le32_at mem.now addr }
-{
-    let mut bytes = [0; 4];
-    mem.read(addr, &mut bytes).unwrap();
-    u32::from_le_bytes(bytes)
-}
-
-/// The number of 64 bits at an address.
-#[tactic(auto, unfolding(crate::specs::Descriptors::le64_at))]
-pub(crate) fn le64(mem: &GuestMem, addr: u64) -> u64
-    requires { addr + 8 ≤ length mem.now }
-    ensures { result ≡ le64_at mem.now addr }
-{
-    let mut bytes = [0; 8];
-    mem.read(addr, &mut bytes).unwrap();
-    u64::from_le_bytes(bytes)
-}
-
-/// Writes a number of 16 bits at an address.
-#[tactic(auto, unfolding(crate::specs::Descriptors::with_le16))]
-pub(crate) fn put_le16(mem: &mut GuestMem, addr: u64, number: u16)
-    requires { addr + 2 ≤ length mem.old }
-    ensures value { mem.new ≡ with_le16 mem.old addr number }
-    ensures others { ChangesOnly mem.old mem.new (IsInRange addr 2) }
-{
-    mem.write(addr, &number.to_le_bytes()).unwrap();
-}
-
-/// Writes a number of 32 bits at an address.
-#[tactic(auto, unfolding(crate::specs::Descriptors::with_le32))]
-pub(crate) fn put_le32(mem: &mut GuestMem, addr: u64, number: u32)
-    requires { addr + 4 ≤ length mem.old }
-    ensures value { mem.new ≡ with_le32 mem.old addr number }
-    ensures others { ChangesOnly mem.old mem.new (IsInRange addr 4) }
-{
-    mem.write(addr, &number.to_le_bytes()).unwrap();
-}
-
-/// Writes a number of 64 bits at an address.
-#[tactic(auto, unfolding(crate::specs::Descriptors::with_le64))]
-fn put_le64(mem: &mut GuestMem, addr: u64, number: u64)
-    requires { addr + 8 ≤ length mem.old }
-    ensures value { mem.new ≡ with_le64 mem.old addr number }
-    ensures others { ChangesOnly mem.old mem.new (IsInRange addr 8) }
-{
-    mem.write(addr, &number.to_le_bytes()).unwrap();
 }

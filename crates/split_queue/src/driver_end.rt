@@ -10,8 +10,9 @@ ghost use Rattle.split_queue.specs.Setup.{setup_fault, IsPlaced};
 ghost use Rattle.split_queue.specs.declared.setup.SetupErr.{SetupErr};
 
 use crate::chain::Piece;
-use crate::descriptor::{Descriptor, NEXT, WRITE, le32};
+use crate::descriptor::{Descriptor, NEXT, WRITE};
 use crate::driver_err::{DriverErr, PostErr, TakeErr};
+use crate::number::le32_at;
 use crate::pool::Pool;
 use crate::queue_place::Place;
 use crate::ring::{clear_rings, put_available, used_idx};
@@ -166,9 +167,9 @@ fn next_used(
         return Err(TakeErr::IdxJump(idx));
     }
     let element = place.used_element_addr(index);
-    let id = le32(mem, element);
+    let id = le32_at(mem, element);
     match pool.head_of(id) {
-        Some(head) => Ok(Some((head, le32(mem, element + 4)))),
+        Some(head) => Ok(Some((head, le32_at(mem, element + 4)))),
         None => Err(TakeErr::BadId(id)),
     }
 }

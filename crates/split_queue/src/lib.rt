@@ -15,8 +15,8 @@
 //! and take they agree again: the take gives the chain that was pushed, and no fewer descriptors are free than before
 //! ([`rounds_keep_agreement`]).
 //!
-//! The modules, lowest first: `queue_place` (where a queue lies), `setup` (whether it may lie there), `descriptor` (and
-//! numbers in memory), `ring`, `chain` (what a device gets), `ring_err`, `walk` (from a head to its chain),
+//! The modules, lowest first: `queue_place` (where a queue lies), `setup` (whether it may lie there), `number`
+//! (in memory), `descriptor`, `ring`, `chain` (what a device gets), `ring_err`, `walk` (from a head to its chain),
 //! `device_end`; `pool` (which descriptors are free), `driver_err`, `driver_end`; `agreement` (laws of both ends
 //! together). The definitions stand in specs/, those of a module under its name: `QueuePlaces`, `Setup`, `Descriptors`,
 //! `Rings`, `Chains`, `RingErrs` (what each fault says), `Walks` (what a walk is, in its own words, and the chain of a
@@ -29,13 +29,12 @@ mod descriptor;
 mod device_end;
 mod driver_end;
 mod driver_err;
+mod number;
 mod pool;
 mod queue_place;
 mod ring;
 mod ring_err;
 mod setup;
-#[cfg(test)]
-mod tests;
 mod walk;
 
 pub use agreement::{

@@ -4,7 +4,7 @@ ghost use Rattle.guest_mem.specs.Memory.{ChangesOnly};
 ghost use Rattle.split_queue.specs.Rings.{available_idx, available_head, with_available_entry, IsInAvailableEntry, used_idx, with_used_entry, IsInUsedEntry, ClearsArea, ClearsRings};
 ghost use Rattle.split_queue.specs.Setup.{IsPlaced};
 
-use crate::descriptor::{le16, put_le16, put_le32};
+use crate::number::{le16_at, put_bytes};
 use crate::queue_place::Place;
 use crate::setup::{Area, available_area, used_area};
 use guest_mem::GuestMem;
@@ -14,7 +14,7 @@ pub(crate) fn available_idx(mem: &GuestMem, place: Place) -> u16
     requires { IsPlaced place (length mem.now) }
     ensures { result ≡ available_idx mem.now place }
 {
-    le16(mem, place.available_idx_addr())
+    le16_at(mem, place.available_idx_addr())
 }
 
 /// The head in the slot of an index of the available ring.
@@ -22,19 +22,20 @@ pub(crate) fn available_head(mem: &GuestMem, place: Place, index: u16) -> u16
     requires { IsPlaced place (length mem.now) }
     ensures { result ≡ available_head mem.now place index }
 {
-    le16(mem, place.available_slot_addr(index))
+    le16_at(mem, place.available_slot_addr(index))
 }
 
 /// Writes a head into the available ring at an index, and the index after it. The index is written last, for a device
 /// that looks meanwhile; no contract says so.
-#[tactic(auto, unfolding(crate::specs::Rings::with_available_entry))]
+#[tactic(auto, unfolding(crate::specs::Rings::with_available_entry, crate::specs::Descriptors::with_le16))]
 pub(crate) fn put_available(mem: &mut GuestMem, place: Place, index: u16, head: u16)
     requires { IsPlaced place (length mem.old) }
     ensures memory { mem.new ≡ with_available_entry mem.old place index head }
     ensures others { ChangesOnly mem.old mem.new (IsInAvailableEntry place index) }
 {
-    put_le16(mem, place.available_slot_addr(index), head);
-    put_le16(mem, place.available_idx_addr(), index.wrapping_add(1));
+    let next = index.wrapping_add(1);
+    put_bytes(mem, place.available_slot_addr(index), &head.to_le_bytes());
+    put_bytes(mem, place.available_idx_addr(), &next.to_le_bytes());
 }
 
 /// The index of the used ring.
@@ -42,21 +43,22 @@ pub(crate) fn used_idx(mem: &GuestMem, place: Place) -> u16
     requires { IsPlaced place (length mem.now) }
     ensures { result ≡ used_idx mem.now place }
 {
-    le16(mem, place.used_idx_addr())
+    le16_at(mem, place.used_idx_addr())
 }
 
 /// Writes an element into the used ring at an index, and the index after it. The index is written last, for a driver
 /// that looks meanwhile; no contract says so.
-#[tactic(auto, unfolding(crate::specs::Rings::with_used_entry))]
+#[tactic(auto, unfolding(crate::specs::Rings::with_used_entry, crate::specs::Descriptors::with_le16, crate::specs::Descriptors::with_le32))]
 pub(crate) fn put_used(mem: &mut GuestMem, place: Place, index: u16, head: u16, len: u32)
     requires { IsPlaced place (length mem.old) }
     ensures memory { mem.new ≡ with_used_entry mem.old place index head len }
     ensures others { ChangesOnly mem.old mem.new (IsInUsedEntry place index) }
 {
     let element = place.used_element_addr(index);
-    put_le32(mem, element, head as u32);
-    put_le32(mem, element + 4, len);
-    put_le16(mem, place.used_idx_addr(), index.wrapping_add(1));
+    let next = index.wrapping_add(1);
+    put_bytes(mem, element, &(head as u32).to_le_bytes());
+    put_bytes(mem, element + 4, &len.to_le_bytes());
+    put_bytes(mem, place.used_idx_addr(), &next.to_le_bytes());
 }
 
 /// Writes zeros over both rings.

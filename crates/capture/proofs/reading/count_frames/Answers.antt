@@ -1,6 +1,6 @@
 use Rattle.std.proofs.Common.{◌≡◌, ◌+◌, length, drop, Some, Ok, ap, sym, ◌∙◌, arith}
 use Rattle.std.proofs.lemmas.Grind.{common_steps}
-use Rattle.capture.specs.Records.{seen, next_of, records_of}
+use Rattle.capture.specs.Records.{map_ok, next_of, records_of}
 use Rattle.capture.proofs.RecordLemmas.{next_of-more, count-more}
 use Rattle.capture.proofs.reading.count_frames.Goals as goal
 
@@ -17,5 +17,5 @@ loop-frame-preserved c =
       from = omega arith;
       within = grind (arith, common_steps);
       room = omega arith;
-      read = count-more count frame (records_of big (at + (16 + length frame)) (drop (at + (16 + length frame)) file)) ∙ ap (seen (λ frames. count + length frames)) (sym more) ∙ c.loop-frame.invariant.read;
+      read = count-more count frame (records_of big (at + (16 + length frame)) (drop (at + (16 + length frame)) file)) ∙ ap (map_ok (λ frames. count + length frames)) (sym more) ∙ c.loop-frame.invariant.read;
     }

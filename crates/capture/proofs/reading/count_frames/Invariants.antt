@@ -1,5 +1,5 @@
 use Rattle.std.proofs.Common.{◌≡◌, ◌+◌, ◌*◌, ◌-◌, ◌≤◌, length, drop}
-use Rattle.capture.specs.Records.{seen, records_of}
+use Rattle.capture.specs.Records.{map_ok, records_of}
 use Rattle.capture.proofs.reading.count_frames.Given as goal
 
 abbrev pub invariant-loop-frame : goal.invariant-loop-frame
@@ -7,8 +7,8 @@ invariant-loop-frame l = record {
   from : 24 ≤ l.at;
   within : l.at ≤ length l.bytes;
   room : 24 + 16 * l.count ≤ l.at;
-  read : seen (λ frames. l.count + length frames) (records_of l.header.big l.at (drop l.at l.bytes))
-      ≡ seen length (records_of l.header.big 24 (drop 24 l.bytes));
+  read : map_ok (λ frames. l.count + length frames) (records_of l.header.big l.at (drop l.at l.bytes))
+      ≡ map_ok length (records_of l.header.big 24 (drop 24 l.bytes));
 }
 
 abbrev pub decreases-loop-frame : goal.decreases-loop-frame

@@ -4,7 +4,7 @@ use Rattle.split_queue.specs.DriverEnds.{DriverEndState, IsDriver, IsInPost, wit
 use Rattle.split_queue.specs.Pools.{AreFree}
 use Rattle.split_queue.specs.Setup.{IsPlaced}
 use Rattle.split_queue.proofs.PostLaws.{changes-with_post}
-use Rattle.split_queue.proofs.PostedChain.{posted_pops}
+use Rattle.split_queue.proofs.PostedChain.{post-pops}
 use Rattle.split_queue.proofs.driver_end.DriverEnd.post.Goals as goal
 
 pub returns-clause-pops : goal.returns-clause-pops
@@ -18,7 +18,7 @@ returns-clause-pops c = λ device agree postable.
     let enough : length c.args.pieces.now ≤ length end.pool.free = omega (arith, ap length free_now, c.free_len-free.ensures.value) in
     let head : c.first-head.result ≡ get_or (reverse end.pool.free) 0 0 = c.first-head.ensures.value ∙ ap (λ ns. get_or (reverse ns) 0 0) free_now in
     let memory : c.put_available.new.mem ≡ with_post c.args.mem.now end c.args.pieces.now c.args.readable = search rules in
-    rw (memory, head) (posted_pops c.args.mem.now end device c.args.pieces.now c.args.readable c.requires.some enough placed driver.same_size small free_list c.put_chain.ensures.lens agree postable)
+    rw (memory, head) (post-pops c.args.mem.now end device c.args.pieces.now c.args.readable c.requires.some enough placed driver.same_size small free_list c.put_chain.ensures.lens agree postable)
 
 pub returns-clause-others : goal.returns-clause-others
 returns-clause-others c =

@@ -1,6 +1,9 @@
-//! Both ends over small memories.
-use crate::{DeviceEnd, DriverEnd, DriverErr, Piece, Place, PostErr, RingErr, SetupErr, TakeErr};
+//! Both ends of a queue, over small memories.
+
 use guest_mem::GuestMem;
+use split_queue::{
+    DeviceEnd, DriverEnd, DriverErr, Piece, Place, PostErr, RingErr, SetupErr, TakeErr,
+};
 use std::alloc::{AllocError, Global};
 use std::test::Fail;
 
