@@ -1,8 +1,10 @@
 //! Bytes, numbers, lines and words, and lists.
 
 use std::test::Fail;
-use vnff_base::{Failed, LineReader, List, MemOut};
-use vnff_base::{first_line, first_word, hex_digit, hex_put, hex_read, is_hex, num_read};
+use vnff_base::{
+    Failed, LineReader, List, MemOut, first_line, first_word, hex_digit, hex_put, hex_read, is_hex,
+    num_read,
+};
 
 #[test]
 fn either_case(rt: HostRuntime) -> Result<(), Fail> {
