@@ -35,7 +35,7 @@ two_bytes place frame inside =
     ap (λ (xs : List ℕ). take 2 xs) (drop_more frame place 0 (omega arith))
     ∙ ap (λ (xs : List ℕ). get_or frame place 0 ∷ take 1 xs) (drop_more frame (place + 1) 0 inside)
 
-bytes_at-within : (place size start span : ℕ) (frame : List ℕ) → start + span ≤ size → bytes_at start span (bytes_at place size frame) ≡ bytes_at (place + start) span frame
+pub bytes_at-within : (place size start span : ℕ) (frame : List ℕ) → start + span ≤ size → bytes_at start span (bytes_at place size frame) ≡ bytes_at (place + start) span frame
 bytes_at-within place size start span frame within =
     let whole : size ≡ start + (size - start) = omega arith in
     ap (λ n. take span (drop start (take n (drop place frame)))) whole

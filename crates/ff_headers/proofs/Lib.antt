@@ -5,6 +5,7 @@ pub mod ShapeLemmas
 pub mod MatchingLemmas
 pub mod FieldLemmas
 pub mod FrameLemmas
+pub mod CutLemmas
 pub mod EntryLemmas
 pub mod OrderLemmas
 pub mod PlaceLemmas

@@ -14,9 +14,9 @@
 //! is a number. `Steps` counts comparisons of keys in what contracts see, and takes no bytes.
 //!
 //! Definitions, in specs/: `Kinds` and `SelectorParts`, `Shapes` (good shape), `Fields` (fields as numbers, and the
-//! mask rule), `Frames` (which headers a frame has, and where), `Matching` (a selector fits, a rule matches), `RuleParts` and `Objects`
-//! (well-formed objects), `Dependents` (rules that name an object), `Places` (first rule, action), `Changes`. The
-//! laws that stand on no other call are those of `laws`.
+//! mask rule), `Frames` (which headers a frame has, and where), `Cuts` (which bytes they depend on), `Matching` (a
+//! selector fits, a rule matches), `RuleParts` and `Objects` (well-formed objects), `Dependents` (rules that name an
+//! object), `Places` (first rule, action), `Changes`. The laws that stand on no other call are those of `laws`.
 #![tactic(auto)]
 
 mod change;
