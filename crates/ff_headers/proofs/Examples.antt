@@ -146,26 +146,15 @@ ipv6_source = refl
 flags_mask : ℕ → ℕ → SelectorParts
 flags_mask flags bits = selector_with Ipv4 flags (replicate 6 0 ++ bits ∷ replicate 13 0)
 
-whole_flags : is_allowed (flags_mask 0 224) (flags_mask 0 224) ≡ true
+-- without PARTIAL_MASK all three may be asked for, or none, and not two of them
+whole_fields : map (λ bits. is_allowed (flags_mask 0 224) (flags_mask 0 bits)) (224 ∷ 0 ∷ 192 ∷ []) ≡ true ∷ true ∷ false ∷ []
 unfolding is_allowed flags_mask
-whole_flags = refl
+whole_fields = refl
 
-no_flags : is_allowed (flags_mask 0 224) (flags_mask 0 0) ≡ true
+-- PARTIAL_MASK is the lowest bit of the capability's flags byte, whatever the others are, and not of the asking one's
+lowest_flag : map (λ flags. is_allowed (flags_mask flags 224) (flags_mask 1 192)) (131 ∷ 130 ∷ []) ≡ true ∷ false ∷ []
 unfolding is_allowed flags_mask
-no_flags = refl
-
-some_flags : is_allowed (flags_mask 0 224) (flags_mask 0 192) ≡ false
-unfolding is_allowed flags_mask
-some_flags = refl
-
--- the flags byte of a capability has other bits besides PARTIAL_MASK, its lowest one
-some_flags_in_part : is_allowed (flags_mask 131 224) (flags_mask 0 192) ≡ true
-unfolding is_allowed flags_mask
-some_flags_in_part = refl
-
-other_flag : is_allowed (flags_mask 130 224) (flags_mask 1 192) ≡ false
-unfolding is_allowed flags_mask
-other_flag = refl
+lowest_flag = refl
 
 -- the fragment offset's first bit stands in the same byte
 another_field : is_allowed (flags_mask 1 224) (flags_mask 0 240) ≡ false

@@ -44,7 +44,7 @@ pub number_more : (xs : List ℕ) (i : ℕ) → i < length xs → number (take (
 number_more xs i inside =
     ap number (take_more xs i 0 inside) ∙ number-append (take i xs) (get_or xs i 0 ∷ []) ∙ omega arith
 
-are_bytes-take : (i : ℕ) (xs : List ℕ) → AreBytes xs → AreBytes (take i xs)
+pub are_bytes-take : (i : ℕ) (xs : List ℕ) → AreBytes xs → AreBytes (take i xs)
 are_bytes-take zero xs h k = omega arith
 are_bytes-take (suc i) [] h k = omega arith
 are_bytes-take (suc i) (x ∷ xs) h zero = h 0
@@ -75,7 +75,7 @@ middle front mid back behind k bits before below =
     rw (mul-add-div_right (pow_pos k) (front * 2 ^ (before + bits)) mid) (
     rw above (mul-add-mod_self_right (front * 2 ^ before) (2 ^ bits) (mid / 2 ^ k)))))))
 
-are_bytes-drop : (i : ℕ) (xs : List ℕ) → AreBytes xs → AreBytes (drop i xs)
+pub are_bytes-drop : (i : ℕ) (xs : List ℕ) → AreBytes xs → AreBytes (drop i xs)
 are_bytes-drop zero xs h = h
 are_bytes-drop (suc i) [] h = h
 are_bytes-drop (suc i) (x ∷ xs) h = are_bytes-drop i xs (later x xs h)

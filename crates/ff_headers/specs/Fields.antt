@@ -21,6 +21,30 @@ bits_at first bits bytes = number bytes / 2 ^ (8 * length bytes - (first + bits)
 abbrev pub field : ℕ → ℕ → Field
 field first bits = record { first = first; bits = bits }
 
+-- the type of what stands behind an Ethernet header (IEEE 802.3)
+abbrev pub ether_type : Field
+ether_type = field 96 16
+
+-- the version of an IP header (RFC 791, RFC 8200)
+abbrev pub ip_version : Field
+ip_version = field 0 4
+
+-- the length of an IPv4 header with its options, in words of 4 bytes (RFC 791, IHL)
+abbrev pub ipv4_words : Field
+ipv4_words = field 4 4
+
+-- the place of a fragment in its datagram, 0 for the first one (RFC 791)
+abbrev pub ipv4_fragment_offset : Field
+ipv4_fragment_offset = field 51 13
+
+-- the protocol of what an IPv4 datagram carries (RFC 791)
+abbrev pub ipv4_protocol : Field
+ipv4_protocol = field 72 8
+
+-- the protocol of what stands behind an IPv6 header (RFC 8200)
+abbrev pub ipv6_next_header : Field
+ipv6_next_header = field 48 8
+
 -- what a field of a header is as a number
 abbrev pub value_at : Field → List ℕ → ℕ
 value_at f header = bits_at f.first f.bits header
@@ -28,15 +52,16 @@ value_at f header = bits_at f.first f.bits header
 -- the fields of a header, in order
 abbrev pub fields_of : Kind → List Field
 -- destination, source, type
-fields_of Eth = field 0 48 ∷ field 48 48 ∷ field 96 16 ∷ []
+fields_of Eth = field 0 48 ∷ field 48 48 ∷ ether_type ∷ []
 -- version, header length, type of service, total length, identification, flags, fragment offset, time to live,
 -- protocol, checksum, source, destination
 fields_of Ipv4 =
-    field 0 4 ∷ field 4 4 ∷ field 8 8 ∷ field 16 16 ∷ field 32 16 ∷ field 48 3 ∷ field 51 13 ∷ field 64 8 ∷ field 72 8
-    ∷ field 80 16 ∷ field 96 32 ∷ field 128 32 ∷ []
+    ip_version ∷ ipv4_words ∷ field 8 8 ∷ field 16 16 ∷ field 32 16 ∷ field 48 3 ∷ ipv4_fragment_offset ∷ field 64 8
+    ∷ ipv4_protocol ∷ field 80 16 ∷ field 96 32 ∷ field 128 32 ∷ []
 -- version, traffic class, flow label, payload length, next header, hop limit, source, destination
 fields_of Ipv6 =
-    field 0 4 ∷ field 4 8 ∷ field 12 20 ∷ field 32 16 ∷ field 48 8 ∷ field 56 8 ∷ field 64 128 ∷ field 192 128 ∷ []
+    ip_version ∷ field 4 8 ∷ field 12 20 ∷ field 32 16 ∷ ipv6_next_header ∷ field 56 8 ∷ field 64 128
+    ∷ field 192 128 ∷ []
 -- source port, destination port, sequence, acknowledgement, data offset, reserved bits and flags, window, checksum,
 -- urgent pointer
 fields_of Tcp =

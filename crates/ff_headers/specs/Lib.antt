@@ -4,6 +4,7 @@ pub mod Shapes
 pub mod Fields
 pub mod RuleParts
 pub mod Frames
+pub mod Cuts
 pub mod Matching
 pub mod Objects
 pub mod Dependents

@@ -1,10 +1,17 @@
 ghost use Rattle.std.specs.Prelude.{◌≡◌, length, IfSome};
 ghost use Rattle.std.specs.Option.{option_copied};
 ghost use Rattle.ff_headers.specs.Kinds.{kind_size};
-ghost use Rattle.ff_headers.specs.Frames.{HeaderBytes, header_bytes, HasSizes, header_at, headers_of, front_of};
+ghost use Rattle.ff_headers.specs.Frames.{HeaderBytes, header_bytes, HasSizes, header_at, headers_of};
 
+use crate::frame::{IP_PLACE, IPV6_END, carries, has_ipv6, ipv4_end, part_if};
 use crate::kind::Kind;
 use std::marker::Model;
+
+/// The protocol of TCP.
+const TCP: u8 = 6;
+
+/// The protocol of UDP.
+const UDP: u8 = 17;
 
 /// The headers of a frame, as copies of their bytes.
 #[derive(Clone, Copy, Debug, PartialEq, Eq)]
@@ -27,17 +34,20 @@ impl Model for Headers {
 }
 
 impl Headers {
-    /// The headers of a frame. Until the IP and port headers are read, it holds the Ethernet header alone.
-    #[tactic(auto, unfolding(crate::specs::Frames::headers_of))]
+    /// The headers of a frame.
     pub fn parse(frame: &[u8]) -> Headers
         ensures { result ≡ headers_of frame.now }
     {
+        let ipv4 = ipv4_end(frame);
+        let is_ipv4 = ipv4.is_some();
+        let is_ipv6 = has_ipv6(frame);
+        let end = ipv4.unwrap_or(IPV6_END);
         Headers {
-            eth: front(frame),
-            ipv4: None,
-            ipv6: None,
-            tcp: None,
-            udp: None,
+            eth: part_if(true, frame, 0),
+            ipv4: part_if(is_ipv4, frame, IP_PLACE),
+            ipv6: part_if(is_ipv6, frame, IP_PLACE),
+            tcp: part_if(carries(frame, is_ipv4, is_ipv6, TCP), frame, end),
+            udp: part_if(carries(frame, is_ipv4, is_ipv6, UDP), frame, end),
         }
     }
 
@@ -54,13 +64,6 @@ impl Headers {
             Kind::Udp => held(&self.udp),
         }
     }
-}
-
-/// The first N bytes, where there are as many.
-fn front<const N: usize>(bytes: &[u8]) -> Option<[u8; N]>
-    ensures { result ≡ front_of N bytes.now }
-{
-    bytes.first_chunk().copied()
 }
 
 /// The bytes of a header, where it is held.

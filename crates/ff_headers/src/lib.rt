@@ -5,22 +5,23 @@
 //! key for its classifier. Which headers a frame has, that both key and frame are masked, and the order of rules are
 //! this project's own.
 //!
-//! It promises that `Headers::parse` holds a frame's Ethernet header (the others are not read yet), that `matches`
-//! says whether each selected header equals the key's part under the mask, and that `Selectors::of` accepts exactly
-//! the lists of good shape. It also defines what a list of changes to groups, classifiers and rules leaves, and which
+//! It promises that `Headers::parse` holds the Ethernet, IPv4, IPv6, TCP and UDP headers that a frame has, that
+//! `matches` says whether each selected header equals the key's part under the mask, and that `Selectors::of` accepts
+//! exactly the lists of good shape. It also defines what a list of changes to groups, classifiers and rules leaves, and which
 //! rule is the first that matches; the device and the search cite these definitions.
 //!
 //! `allowed` says which masks a selector of a device's capability allows: each header is cut into fields, and a field
 //! is a number. `Steps` counts comparisons of keys in what contracts see, and takes no bytes.
 //!
 //! Definitions, in specs/: `Kinds` and `SelectorParts`, `Shapes` (good shape), `Fields` (fields as numbers, and the
-//! mask rule), `Frames` (headers), `Matching` (a selector fits, a rule matches), `RuleParts` and `Objects`
-//! (well-formed objects), `Dependents` (rules that name an object), `Places` (first rule, action), `Changes`. The
-//! laws that stand on no other call are those of `laws`.
+//! mask rule), `Frames` (which headers a frame has, and where), `Cuts` (which bytes they depend on), `Matching` (a
+//! selector fits, a rule matches), `RuleParts` and `Objects` (well-formed objects), `Dependents` (rules that name an
+//! object), `Places` (first rule, action), `Changes`. The laws that stand on no other call are those of `laws`.
 #![tactic(auto)]
 
 mod change;
 mod field;
+mod frame;
 mod headers;
 mod kind;
 pub mod laws;
@@ -37,9 +38,9 @@ pub use field::{Field, fields_of};
 pub use headers::Headers;
 pub use kind::Kind;
 pub use limits::Limits;
-pub use mask_rule::allowed;
+pub use mask_rule::{allowed, is_partial};
 pub use matching::matches;
 pub use rule::{Action, Key, RuleAction, RuleObj};
 pub use selector::Selector;
-pub use selectors::{Selectors, ShapeErr};
+pub use selectors::{Selectors, ShapeErr, rises};
 pub use steps::{Steps, cmp_key};

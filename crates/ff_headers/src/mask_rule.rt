@@ -25,7 +25,8 @@ pub fn allowed(have: &Selector, want: &Selector) -> bool
     }
 }
 
-fn is_partial(selector: &Selector) -> bool
+/// Whether the selector's PARTIAL_MASK is set.
+pub fn is_partial(selector: &Selector) -> bool
     ensures { result ≡ is_partial selector.now }
 {
     selector.flags() & PARTIAL_MASK == PARTIAL_MASK

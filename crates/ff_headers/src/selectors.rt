@@ -122,8 +122,8 @@ fn has_kind(list: &[Selector], kind: Kind) -> bool
         .any(|code| kind.code() == code)
 }
 
-/// Whether the types rise strictly.
-fn rises(list: &[Selector]) -> bool
+/// Whether the types of the selectors rise strictly.
+pub fn rises(list: &[Selector]) -> bool
     ensures { result ≡ rises (codes_of list.now) }
 {
     list.is_sorted_by(|a, b| a.kind().code() < b.kind().code())
