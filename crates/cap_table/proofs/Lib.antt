@@ -4,6 +4,7 @@ pub mod OpcodeLemmas
 pub mod SettingLemmas
 pub mod CapResultLemmas
 pub mod RowLemmas
-pub mod AcceptedCreates
+pub mod AcceptedChanges
 pub mod EveryAnswer
+pub mod ReadLists
 pub mod ValidSteps

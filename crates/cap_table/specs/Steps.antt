@@ -4,10 +4,10 @@ use Rattle.ff_headers.specs.Changes.{step}
 use Rattle.byte_numbers.specs.Numbers.{le16_at}
 use Rattle.admin_wire.specs.Replies.{reply_bytes}
 use Rattle.cap_table.specs.States.{DeviceState}
-use Rattle.cap_table.specs.Verdicts.{verdict_of}
+use Rattle.cap_table.specs.Answers.{verdict_of}
 use Rattle.cap_table.specs.declared.answer.Answer.{Answer}
 use Rattle.cap_table.specs.declared.answer.Effect.{Effect}
-use Rattle.cap_table.specs.declared.answer.Effect.TheVariants.{Nothing, Change}
+use Rattle.cap_table.specs.declared.answer.Effect.TheVariants.{Nothing, Use, Caps, Change}
 
 -- the reply's bytes: status, qualifier, four zero bytes and the result, cut to the room
 abbrev pub reply_in : Option Answer → ℕ → List ℕ
@@ -21,6 +21,8 @@ effect_in (Some answer) = answer.effect
 -- the state with an effect: a change is made where it is sound within the device's limits
 abbrev pub with_effect : DeviceState → Effect → DeviceState
 with_effect state Nothing = state
+with_effect state (Use opcodes) = record state { in_use = opcodes }
+with_effect state (Caps driver) = record state { driver = driver }
 with_effect state (Change change) = record state { objects = step state.caps.limits state.objects change }
 
 -- the effect of a command
