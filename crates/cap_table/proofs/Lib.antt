@@ -1,5 +1,6 @@
 mod Examples
 mod CapExamples
+mod MachineExamples
 pub mod OpcodeLemmas
 pub mod SettingLemmas
 pub mod CapResultLemmas

@@ -1,7 +1,7 @@
 -- What a command is answered with where no row of the verdict table holds, and what it changes: results are those of the
 -- Virtio 1.4 draft's commands (group administration commands, device capabilities, resource objects); the bytes of an
 -- object are laid out as in the command that creates it.
-use Rattle.std.specs.Prelude.{ℕ, ◌==◌, if◌then◌else◌, nat_lt, List, [], Option, Some, None, Result, Ok, Err}
+use Rattle.std.specs.Prelude.{⊤, ℕ, ◌==◌, if◌then◌else◌, nat_lt, List, [], Option, Some, None, Result, Ok, Err}
 use Rattle.std.specs.List.{flat_map}
 use Rattle.std.specs.Option.{option_map_or}
 use Rattle.std.specs.Int.{w64, to_le_bytes}
@@ -75,6 +75,13 @@ change_of (Create head object) = put_of head.id object
 change_of (Modify head object) = put_of head.id object
 change_of (Destroy head) = drop_of head.type_code head.id
 change_of _ = None
+
+-- the command creates, modifies or destroys an object
+abbrev pub ChangesObjects : Command → Type 0
+ChangesObjects (Create head object) = ⊤
+ChangesObjects (Modify head object) = ⊤
+ChangesObjects (Destroy head) = ⊤
+ChangesObjects _ = ⊥
 
 -- the change as an effect
 abbrev pub effect_with : Option Change → Effect
