@@ -1,6 +1,7 @@
 -- What holds of every answer: its status isn't ENOMEM, and where the status isn't 0 there is no effect.
 use Rattle.std.proofs.Common.{◌≡◌, ◌≢◌, ℕ, zero, suc, ◌<◌, ◌≤◌, ◌^◌, ◌∙◌, take, Bool, true, false, cond, List, [], ◌∷◌, ◌++◌, Option, Some, None, Result, Ok, Err, refl, sym, ap, subst, arith}
 use Rattle.std.specs.Prelude.{nat_lt}
+use Rattle.std.proofs.lemmas.Bool.{le-ltb}
 use Rattle.std.proofs.lemmas.Bool.Decides.{nat_tests}
 use Rattle.std.proofs.lemmas.Nat.{from_le_bytes-to_le_bytes_2}
 use Rattle.ff_headers.specs.Objects.{FlowObjects}
@@ -95,6 +96,10 @@ verdict_refusals : (state : DeviceState) (bytes : List ℕ) → AreRefusals (ver
 verdict_refusals state bytes =
     appended (layout_rows state.in_use (opcode_of bytes) (command_of bytes)) (read_rows state (command_of bytes)) (einval 1, (einval 2, (einval 4, (einval 5, (einval 1, tt))))) (read_refusals state (command_of bytes))
 
+-- a verdict on bytes is a refusal
+pub verdict_refused : (state : DeviceState) (bytes : List ℕ) (verdict : Verdict) → first_verdict (verdict_rows state bytes) ≡ Some verdict → IsRefusal verdict
+verdict_refused state bytes verdict is = first_is_refusal (verdict_rows state bytes) verdict (verdict_refusals state bytes) is
+
 -- ---- every answer
 
 -- the status is one of 16 bits and isn't ENOMEM, and there is no effect where it isn't 0
@@ -120,7 +125,7 @@ answer_is_right state bytes = by_verdict (first_verdict (verdict_rows state byte
   by_verdict : (o : Option Verdict) → first_verdict (verdict_rows state bytes) ≡ o → IsRight (refused_or o (accepted state (command_of bytes)))
   by_verdict None is = accepted_is_right state (command_of bytes)
   by_verdict (Some verdict) is =
-      let refused = first_is_refusal (verdict_rows state bytes) verdict (verdict_refusals state bytes) is in
+      let refused = verdict_refused state bytes verdict is in
       record { fits = refused.fits; other = refused.other; effect = λ _. refl }
 
 -- ---- the reply's bytes
@@ -172,6 +177,15 @@ every_reply state bytes room = by_test (nat_lt room 8) refl where
       let answer = answer_of state bytes in
       let text : reply_bytes answer.reply room ≡ take room (whole_reply answer.reply) = ap (λ b. cond b [] (take room (whole_reply answer.reply))) e in
       subst (λ (r : List ℕ). IsRightReply r answer.effect) (sym text) (right_reply answer room (answer_is_right state bytes) le)
+
+-- where there is room, the reply begins with the answer's status
+pub status_is : (state : DeviceState) (bytes : List ℕ) (room : ℕ) → 8 ≤ room → status_of (reply_of state bytes room) ≡ (answer_of state bytes).reply.status
+unfolding verdict_of
+status_is state bytes room enough =
+    let answer = answer_of state bytes in
+    let right = answer_is_right state bytes in
+    let text : reply_of state bytes room ≡ take room (whole_reply answer.reply) = ap (λ b. reply_in (cond b None (Some answer)) room) (le-ltb room 8 enough) ∙ ap (λ b. cond b [] (take room (whole_reply answer.reply))) (le-ltb room 8 enough) in
+    ap status_of text ∙ written answer.reply room enough right.fits
 
 -- no reply says that memory ran out
 pub never_no_memory : (state : DeviceState) (bytes : List ℕ) (room : ℕ) → status_of (reply_of state bytes room) ≢ no_memory.status

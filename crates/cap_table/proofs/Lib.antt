@@ -8,4 +8,6 @@ pub mod RowLemmas
 pub mod AcceptedChanges
 pub mod EveryAnswer
 pub mod ReadLists
+pub mod ObeyedCommands
+pub mod ObjectRuns
 pub mod ValidSteps
