@@ -29,11 +29,11 @@ use Rattle.cap_table.specs.Verdicts.{first_verdict, command_rows, content_rows, 
 use Rattle.cap_table.specs.Answers.{change_of, put_of, drop_of, rule_parts, action_of_byte}
 use Rattle.cap_table.proofs.RowLemmas.{NoneHolds, IsSoundContent, sound_content, IsClear, clear}
 
-not_false : (b : Bool) → not b ≡ false → b ≡ true
+pub not_false : (b : Bool) → not b ≡ false → b ≡ true
 not_false true h = refl
 not_false false h = absurd cc
 
-none_from_test : {X : Type 0} (o : Option X) → is_some o ≡ false → o ≡ None
+pub none_from_test : {X : Type 0} (o : Option X) → is_some o ≡ false → o ≡ None
 none_from_test None h = refl
 none_from_test (Some x) h = absurd cc
 
@@ -81,7 +81,7 @@ pub record IsAccepted (caps : CapsParts) (objects : FlowObjects) (change : Chang
   pub shaped : CarriesShape change
   pub queues : (id : ℕ) (rule : RuleParts) → change ≡ PutRule id rule → QueuesWithin caps.pairs (id, rule)
 
-some_is : {a b : Change} → Some a ≡ Some b → a ≡ b
+pub some_is : {a b : Change} → Some a ≡ Some b → a ≡ b
 some_is h = cc
 
 rule_is : {i j : ℕ} {r s : RuleParts} → PutRule i r ≡ PutRule j s → r ≡ s

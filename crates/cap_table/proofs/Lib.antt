@@ -7,7 +7,9 @@ pub mod CapResultLemmas
 pub mod RowLemmas
 pub mod AcceptedChanges
 pub mod EveryAnswer
-pub mod ReadLists
+pub mod ReadCommands
 pub mod ObeyedCommands
 pub mod ObjectRuns
+pub mod UndoneCreates
+pub mod KeptObjects
 pub mod ValidSteps

@@ -1,6 +1,5 @@
 -- Runs of the machine computed from the definitions: commands with their rooms, and their replies.
 use Rattle.std.proofs.Common.{◌≡◌, ℕ, List, [], ◌∷◌, ◌++◌, replicate, refl}
-use Rattle.ff_headers.specs.declared.limits.Limits.{Limits}
 use Rattle.ff_headers.specs.Fields.{is_allowed}
 use Rattle.ff_headers.specs.Shapes.{shape_fault}
 use Rattle.ff_headers.specs.Changes.{is_sound, with_change_made, step}
@@ -98,4 +97,3 @@ sets = refl
 uses : replies (start_state (caps 8) Reset) (group 10 1 5 ∷ (command 1 (131 ∷ 63 ∷ replicate 6 0), 8) ∷ group 10 1 5 ∷ (command 1 (0 ∷ 0 ∷ replicate 6 0), 8) ∷ group 10 1 5 ∷ (command 0 [], 16) ∷ (command 1 (4 ∷ 0 ∷ replicate 6 0), 8) ∷ []) ≡ refused 22 2 ∷ ok ∷ refused 28 6 ∷ ok ∷ refused 22 2 ∷ told (131 ∷ 63 ∷ replicate 6 0) ∷ refused 22 3 ∷ []
 unfolding replies command head flags group classifier rule ok refused told caps le16_at le32_at le64_at shape_fault is_allowed is_sound with_change_made step whole_entry entries_of selector_of raw_list list_of head_of bare_head_of group_of classifier_of raw_key rule_of object_of head_and_object limits_of selectors_of raw_actions actions_of cap_data_of cap_of header_of opcode_of list_use_of cap_get_of query_of destroy_of data_of command_of cap_fault cap_result answer_of verdict_of whole_reply
 uses = refl
-

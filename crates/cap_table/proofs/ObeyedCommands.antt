@@ -1,7 +1,6 @@
 -- A command that is answered with status 0: no row holds of it, and the state has its effect.
-use Rattle.std.proofs.Common.{◌≡◌, ◌≢◌, ℕ, ◌≤◌, Bool, true, false, not, ◌||◌, cond, ltb, List, [], ◌++◌, take, Option, Some, None, Result, Ok, Err, refl, sym, ap, ◌∙◌, subst, arith}
+use Rattle.std.proofs.Common.{◌≡◌, ℕ, ◌≤◌, Bool, true, false, not, cond, ltb, List, [], ◌++◌, take, Option, Some, None, Result, Ok, refl, sym, ap, ◌∙◌, subst}
 use Rattle.std.proofs.lemmas.Bool.{le-ltb}
-use Rattle.ff_headers.specs.Objects.{FlowObjects}
 use Rattle.admin_wire.specs.declared.command.Command.{Command}
 use Rattle.admin_wire.specs.declared.error.WireErr.{WireErr}
 use Rattle.admin_wire.specs.Headers.{opcode_of}
@@ -10,15 +9,13 @@ use Rattle.admin_wire.specs.Opcodes.{code_of}
 use Rattle.admin_wire.specs.Replies.{whole_reply, reply_bytes}
 use Rattle.admin_wire.specs.Wire.{command_of}
 use Rattle.admin_wire.proofs.CommandLaws.{opcode_if_read}
-use Rattle.cap_table.specs.Caps.{CapsParts, DriverParts}
 use Rattle.cap_table.specs.States.{DeviceState, is_opcode_in}
 use Rattle.cap_table.specs.Verdicts.{first_verdict, verdict_rows, layout_rows, read_rows, command_rows, is_opcode_unused}
 use Rattle.cap_table.specs.Answers.{answer_of, verdict_of, accepted, refused_or, obeyed_command, effect_for}
 use Rattle.cap_table.specs.Steps.{status_of, reply_in, reply_of, effect_in, effect_of, with_effect, next_state}
 use Rattle.cap_table.specs.declared.verdict.Verdict.{Verdict}
 use Rattle.cap_table.specs.declared.answer.Answer.{Answer}
-use Rattle.cap_table.specs.declared.answer.Effect.{Effect}
-use Rattle.cap_table.proofs.EveryAnswer.{IsRefusal, verdict_refused, status_is}
+use Rattle.cap_table.proofs.EveryAnswer.{verdict_refused, status_is}
 use Rattle.cap_table.proofs.RowLemmas.{back_of_none, command_row}
 
 module _ (state : DeviceState) (bytes : List ℕ) where

@@ -1,25 +1,24 @@
 -- What runs keep of objects: what a rule names, what a put leaves, what a drop takes away again.
-use Rattle.std.proofs.Common.{◌≡◌, ◌≢◌, ℕ, ◌≤◌, ◌<◌, Bool, true, false, not, ◌&&◌, ◌||◌, cond, eqb, ltb, List, [], ◌∷◌, Option, Some, None, refl, sym, ap, ◌∙◌, subst, arith}
-use Rattle.std.specs.Prelude.{is_some, IsSome, Contains}
-use Rattle.std.specs.List.{list_any}
+use Rattle.std.proofs.Common.{◌≡◌, ◌≢◌, ℕ, Bool, true, false, not, cond, eqb, ltb, List, [], ◌∷◌, Option, Some, None, refl, sym, ap, ◌∙◌, arith}
+use Rattle.std.specs.Prelude.{is_some, IsSome}
 use Rattle.std.proofs.lemmas.Bool.{not-true}
-use Rattle.std.proofs.lemmas.Bool.Decides.{nat_tests, eqb_tells}
+use Rattle.std.proofs.lemmas.Bool.Decides.{nat_tests}
 use Rattle.ff_headers.specs.SelectorParts.{SelectorParts}
 use Rattle.ff_headers.specs.RuleParts.{RuleParts}
-use Rattle.ff_headers.specs.Objects.{FlowObjects, object_under, IsById, IsBacked, IsWellFormed}
+use Rattle.ff_headers.specs.Objects.{FlowObjects, object_under, IsById, IsWellFormed}
 use Rattle.ff_headers.specs.Changes.{put, without, is_sound, names_group, names_classifier, with_change_made, step}
 use Rattle.ff_headers.specs.declared.limits.Limits.{Limits}
 use Rattle.ff_headers.specs.declared.change.Change.{Change}
 use Rattle.ff_headers.specs.declared.change.Change.TheVariants.{PutGroup, DropGroup, PutClassifier, DropClassifier, PutRule, DropRule, Close}
-use Rattle.ff_headers.proofs.EntryLemmas.{object_under-cons, put-cons, without-cons, held_from_entry, object_under-put, object_under-without, fails_at_held}
+use Rattle.ff_headers.proofs.EntryLemmas.{object_under-cons, put-cons, without-cons, object_under-put, object_under-without, fails_at_held}
 use Rattle.cap_table.specs.States.{DeviceState, IsValid}
-use Rattle.cap_table.specs.Steps.{with_effect, effect_of, next_state}
+use Rattle.cap_table.specs.Steps.{with_effect}
 use Rattle.cap_table.specs.declared.answer.Effect.{Effect}
 use Rattle.cap_table.specs.declared.answer.Effect.TheVariants as effects
 
 -- ---- one map
 
-apart : (a b : ℕ) → a ≢ b → eqb a b ≡ false
+pub apart : (a b : ℕ) → a ≢ b → eqb a b ≡ false
 apart a b off = grind (arith, nat_tests)
 
 differs : (a b : ℕ) → eqb a b ≡ false → a ≢ b
@@ -58,6 +57,11 @@ module _ {X : Type 0} where
   pub without-put : (es : List (ℕ × X)) (id : ℕ) (x : X) → object_under es id ≡ None → without (put es id x) id ≡ es
   without-put [] id x none = without-cons id x [] id ∙ ap (λ b. cond b [] ((id, x) ∷ [])) (itself id)
   without-put (e ∷ es) id x none = put_and_out e.0 e.1 es id x none (without-put es id x)
+
+-- a change that is sound is made
+pub step_sound : (limits : Limits) (objects : FlowObjects) (change : Change) → is_sound limits objects change ≡ true → step limits objects change ≡ with_change_made objects change
+unfolding step
+step_sound limits objects change sound = ap (λ b. cond b (with_change_made objects change) objects) sound
 
 -- ---- what a rule names
 

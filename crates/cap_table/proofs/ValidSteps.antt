@@ -36,7 +36,7 @@ use Rattle.cap_table.specs.declared.setting.CapErr.{CapErr}
 use Rattle.cap_table.proofs.RowLemmas.{back_of_none, clear}
 use Rattle.cap_table.proofs.AcceptedChanges.{IsAccepted, accepted_change}
 use Rattle.cap_table.proofs.SettingLemmas.{within_if_whole}
-use Rattle.cap_table.proofs.ReadLists.{cap_whole}
+use Rattle.cap_table.proofs.ReadCommands.{cap_whole}
 
 -- how two ids compare
 data ComparesTo (a b : ℕ) : Type 0 where

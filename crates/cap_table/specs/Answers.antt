@@ -153,10 +153,13 @@ bare_reply status qualifier = record { status = status; qualifier = qualifier; r
 abbrev pub refused : Verdict → Answer
 refused verdict = record { reply = bare_reply verdict.status verdict.qualifier; effect = effects.Nothing }
 
--- a command is obeyed: status and qualifier are 0
+-- the reply to a command that is obeyed: status and qualifier are 0, and the result is what it is told
+abbrev pub telling : List ℕ → Reply
+telling told = record { status = 0; qualifier = 0; result = record { items = told } }
+
+-- a command is obeyed
 abbrev pub obeyed : List ℕ → Effect → Answer
-obeyed told effect =
-    record { reply = record { status = 0; qualifier = 0; result = record { items = told } }; effect = effect }
+obeyed told effect = record { reply = telling told; effect = effect }
 
 -- the answer to a command against which no row holds
 abbrev pub obeyed_command : CapsParts → DriverParts → FlowObjects → Command → Answer

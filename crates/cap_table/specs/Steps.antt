@@ -1,8 +1,13 @@
 -- One step of the object machine, and its runs. This project's subset of the draft's administration commands.
-use Rattle.std.specs.Prelude.{ℕ, ◌≡◌, ◌≢◌, List, [], ◌∷◌, Option, Some, None}
+use Rattle.std.specs.Prelude.{ℕ, ◌≡◌, ◌≢◌, ◌⊎◌, List, [], ◌∷◌, Option, Some, None}
 use Rattle.ff_headers.specs.Changes.{step}
 use Rattle.byte_numbers.specs.Numbers.{le16_at}
+use Rattle.admin_wire.specs.declared.command.Command.{Command}
+use Rattle.admin_wire.specs.declared.command.Command.TheVariants.{Create, Modify, Destroy}
+use Rattle.admin_wire.specs.declared.command.ObjData.{ObjData}
+use Rattle.admin_wire.specs.declared.command.ObjHead.{ObjHead}
 use Rattle.admin_wire.specs.Replies.{reply_bytes}
+use Rattle.admin_wire.specs.Wire.{Reads}
 use Rattle.cap_table.specs.States.{DeviceState}
 use Rattle.cap_table.specs.Answers.{verdict_of}
 use Rattle.cap_table.specs.declared.answer.Answer.{Answer}
@@ -54,3 +59,20 @@ status_of reply = le16_at reply 0
 pub record OnlyObeyedChanges (reply : List ℕ) (effect : Effect) : Type 0 where
   pub refused : status_of reply ≢ 0 → effect ≡ Nothing
   pub silent : reply ≡ [] → effect ≡ Nothing
+
+-- ---- commands on one object
+
+-- the bytes create or modify an object
+abbrev pub Puts : List ℕ → ObjHead → ObjData → Type 0
+Puts bytes head object = Reads bytes (Create head object) ⊎ Reads bytes (Modify head object)
+
+-- the command creates, modifies or destroys the object of a type and id
+abbrev pub IsAbout : ℕ → ℕ → Command → Type 0
+IsAbout type_code id (Create head object) = (head.type_code ≡ type_code) × (head.id ≡ id)
+IsAbout type_code id (Modify head object) = (head.type_code ≡ type_code) × (head.id ≡ id)
+IsAbout type_code id (Destroy head) = (head.type_code ≡ type_code) × (head.id ≡ id)
+IsAbout type_code id _ = ⊥
+
+-- the bytes lay out no such command
+abbrev pub IsElsewhere : ℕ → ℕ → List ℕ × ℕ → Type 0
+IsElsewhere type_code id sent = (command : Command) → Reads sent.0 command → ¬ IsAbout type_code id command

@@ -1,5 +1,6 @@
--- The selectors of a list that was read have masks of their headers' sizes.
-use Rattle.std.proofs.Common.{◌≡◌, ℕ, zero, suc, ◌+◌, ◌≤◌, take, drop, Bool, true, false, cond, eqb, List, [], ◌∷◌, length, get_or, Option, Some, None, Ok, refl, sym, ap, ◌∙◌, subst, arith, All}
+-- What a command that was read is: the data of an object is of its head's type, and the selectors of a list have masks of their
+-- headers' sizes.
+use Rattle.std.proofs.Common.{◌≡◌, ℕ, zero, suc, ◌+◌, ◌≤◌, take, drop, Bool, true, false, cond, eqb, List, [], ◌∷◌, length, get_or, Option, Some, None, Ok, refl, sym, ap, ◌∙◌, subst, arith, All, Result}
 use Rattle.std.specs.List.{AllByRecursion, filter_map, cons_option}
 use Rattle.std.specs.Prelude.{◌==◌}
 use Rattle.std.proofs.lemmas.Bool.{eqb-true}
@@ -11,12 +12,18 @@ use Rattle.ff_headers.specs.SelectorParts.{SelectorParts, IsWhole, selector_with
 use Rattle.admin_wire.specs.declared.command.CapData.{CapData}
 use Rattle.admin_wire.specs.declared.command.CapData.TheVariants as caps
 use Rattle.admin_wire.specs.declared.command.Command.{Command}
-use Rattle.admin_wire.specs.declared.command.Command.TheVariants.{CapSet}
+use Rattle.admin_wire.specs.declared.command.Command.TheVariants.{CapSet, Create, Modify}
+use Rattle.admin_wire.specs.declared.command.ObjData.{ObjData}
+use Rattle.admin_wire.specs.declared.command.ObjData.TheVariants.{Other}
+use Rattle.admin_wire.specs.declared.command.ObjHead.{ObjHead}
 use Rattle.admin_wire.specs.declared.command.RawList.{RawList}
 use Rattle.admin_wire.specs.declared.command.RawList.TheVariants as lists
 use Rattle.byte_numbers.specs.Numbers.{le16_at}
-use Rattle.admin_wire.specs.Codes.{header_size, limits_size, list_head_size, cap_head_size, limits_cap, selectors_cap, actions_cap}
+use Rattle.admin_wire.specs.Codes.{header_size, head_size, group_size, rule_head_size, group_type, classifier_type, rule_type, limits_size, list_head_size, cap_head_size, limits_cap, selectors_cap, actions_cap}
 use Rattle.admin_wire.specs.Headers.{header_of, opcode_of}
+use Rattle.admin_wire.specs.Objects.{head_of, group_of, classifier_of, rule_of, object_of, head_and_object}
+use Rattle.admin_wire.specs.declared.error.WireErr.{WireErr}
+use Rattle.cap_table.specs.Verdicts.{type_of, is_object_type}
 use Rattle.admin_wire.specs.Layouts.{opcode_for}
 use Rattle.admin_wire.specs.Opcodes.{code_of, opcode_with}
 use Rattle.admin_wire.specs.Capabilities.{limits_of, selectors_of, actions_of, cap_data_of, cap_of}
@@ -101,6 +108,68 @@ data_read bytes command h =
     = sym (opcode_with-code_of step.0) ∙ (ap opcode_with code ∙ opcode_with-code_of (opcode_for command)) in
     let is : step.0 ≡ opcode_for command = cc same in
     subst (λ opcode. data_of opcode (drop header_size bytes) ≡ Ok command) is step.2
+
+-- ---- an object that was read
+
+abbrev ok : ObjData → Result ObjData WireErr
+ok object = Ok object
+
+same_type : (a b : ObjData) → ok a ≡ ok b → type_of b ≡ type_of a
+same_type a b h = let is : a ≡ b = cc h in ap type_of (sym is)
+
+group_typed : (bytes : List ℕ) (object : ObjData) → group_of bytes ≡ Ok object → type_of object ≡ group_type
+unfolding group_of
+group_typed bytes object h = let enough = long_enough (length bytes) group_size _ _ object h in same_type _ object enough.1
+
+classifier_typed : (bytes : List ℕ) (object : ObjData) → classifier_of bytes ≡ Ok object → type_of object ≡ classifier_type
+unfolding classifier_of
+classifier_typed bytes object h = let step = after_step (list_of bytes) _ object h in same_type _ object step.2
+
+rule_typed : (bytes : List ℕ) (object : ObjData) → rule_of bytes ≡ Ok object → type_of object ≡ rule_type
+unfolding rule_of
+rule_typed bytes object h = let enough = long_enough (length bytes) (rule_head_size + get_or bytes 9 0) _ _ object h in same_type _ object enough.1
+
+object_typed : (type_code : ℕ) (bytes : List ℕ) (object : ObjData) → object_of type_code bytes ≡ Ok object → is_object_type (type_of object) ≡ true → type_of object ≡ type_code
+unfolding object_of
+object_typed type_code bytes object h known = by_type (type_code == group_type) (type_code == classifier_type) (type_code == rule_type) refl refl refl h where
+  by_type : (b c d : Bool) → (type_code == group_type) ≡ b → (type_code == classifier_type) ≡ c → (type_code == rule_type) ≡ d → cond b (group_of bytes) (cond c (classifier_of bytes) (cond d (rule_of bytes) (Ok Other))) ≡ Ok object → type_of object ≡ type_code
+  by_type true c d is other last h = group_typed bytes object h ∙ sym (eqb-true type_code group_type is)
+  by_type false true d is other last h = classifier_typed bytes object h ∙ sym (eqb-true type_code classifier_type other)
+  by_type false false true is other last h = rule_typed bytes object h ∙ sym (eqb-true type_code rule_type last)
+  by_type false false false is other last h = let none : Other ≡ object = cc h in absurd (let unknown : is_object_type (type_of Other) ≡ true = subst (λ (o : ObjData). is_object_type (type_of o) ≡ true) (sym none) known in cc)
+
+both_typed : (bytes : List ℕ) (parts : ObjHead × ObjData) → head_and_object bytes ≡ Ok parts → is_object_type (type_of parts.1) ≡ true → type_of parts.1 ≡ parts.0.type_code
+unfolding head_and_object
+both_typed bytes parts h known =
+    let enough = long_enough (length bytes) head_size _ _ parts h in
+    let step = after_step (object_of (head_of bytes).type_code (drop head_size bytes)) _ parts enough.1 in
+    let is : (head_of bytes, step.0) ≡ parts = cc step.2 in
+    let same : step.0 ≡ parts.1 = ap (λ (p : ObjHead × ObjData). p.1) is in
+    let head : head_of bytes ≡ parts.0 = ap (λ (p : ObjHead × ObjData). p.0) is in
+    let typed = object_typed (head_of bytes).type_code (drop head_size bytes) step.0 step.1 (subst (λ (o : ObjData). is_object_type (type_of o) ≡ true) (sym same) known) in
+    ap type_of (sym same) ∙ (typed ∙ ap (λ (x : ObjHead). x.type_code) head)
+
+-- the data that a create gives is of its head's type
+pub created_typed : (bytes : List ℕ) (head : ObjHead) (object : ObjData) → command_of bytes ≡ Ok (Create head object) → is_object_type (type_of object) ≡ true → type_of object ≡ head.type_code
+unfolding data_of
+created_typed bytes head object h known =
+    let step = after_step (head_and_object (drop header_size bytes)) _ _ (data_read bytes (Create head object) h) in
+    let is : Create step.0.0 step.0.1 ≡ Create head object = cc step.2 in
+    let first : step.0.0 ≡ head = cc is in
+    let second : step.0.1 ≡ object = cc is in
+    let typed = both_typed (drop header_size bytes) step.0 step.1 (subst (λ (o : ObjData). is_object_type (type_of o) ≡ true) (sym second) known) in
+    ap type_of (sym second) ∙ (typed ∙ ap (λ (x : ObjHead). x.type_code) first)
+
+-- and so is that which a modify gives
+pub modified_typed : (bytes : List ℕ) (head : ObjHead) (object : ObjData) → command_of bytes ≡ Ok (Modify head object) → is_object_type (type_of object) ≡ true → type_of object ≡ head.type_code
+unfolding data_of
+modified_typed bytes head object h known =
+    let step = after_step (head_and_object (drop header_size bytes)) _ _ (data_read bytes (Modify head object) h) in
+    let is : Modify step.0.0 step.0.1 ≡ Modify head object = cc step.2 in
+    let first : step.0.0 ≡ head = cc is in
+    let second : step.0.1 ≡ object = cc is in
+    let typed = both_typed (drop header_size bytes) step.0 step.1 (subst (λ (o : ObjData). is_object_type (type_of o) ≡ true) (sym second) known) in
+    ap type_of (sym second) ∙ (typed ∙ ap (λ (x : ObjHead). x.type_code) first)
 
 -- ---- a capability that was read
 
