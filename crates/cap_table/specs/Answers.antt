@@ -31,7 +31,7 @@ use Rattle.cap_table.specs.Caps.{CapsParts, DriverParts}
 use Rattle.cap_table.specs.CapSets.{with_cap}
 use Rattle.cap_table.specs.CapResults.{list_words, cap_result}
 use Rattle.cap_table.specs.States.{DeviceState, all_opcodes, first_opcodes}
-use Rattle.cap_table.specs.Verdicts.{first_verdict, verdict_rows, selectors_in}
+use Rattle.cap_table.specs.Verdicts.{first_verdict, read_rows, verdict_rows, selectors_in}
 use Rattle.cap_table.specs.declared.verdict.Verdict.{Verdict}
 use Rattle.cap_table.specs.declared.answer.Answer.{Answer}
 use Rattle.cap_table.specs.declared.answer.Effect.{Effect}
@@ -174,6 +174,10 @@ accepted state (Err _) = obeyed [] effects.Nothing
 abbrev pub refused_or : Option Verdict → Answer → Answer
 refused_or (Some verdict) answer = refused verdict
 refused_or None answer = answer
+
+-- the answer to a command that is laid out and whose opcode is in use
+abbrev pub answer_to : DeviceState → Command → Answer
+answer_to state command = refused_or (first_verdict (read_rows state (Ok command))) (accepted state (Ok command))
 
 -- the answer to bytes, whatever room there is for it
 unfoldable pub answer_of : DeviceState → List ℕ → Answer

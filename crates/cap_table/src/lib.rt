@@ -9,8 +9,8 @@
 //! [`has_opcode`], [`has_other_opcode`] and [`is_opcode_in`] say what a capability, the device and a bitmap of opcodes
 //! have; [`opcodes_used`] keeps the two opcodes that are always in use. [`may_set`]
 //! refuses a capability that the driver wants to set exactly where it has a fault, with the first one, and
-//! `DriverCaps::set` replaces that capability alone; [`list_words`] and [`cap_result`] give the bytes in which the
-//! device tells of its capabilities.
+//! `DriverCaps::set` replaces that capability alone; [`list_words`], [`list_bytes`] and [`cap_result`] give what the
+//! device tells of its capabilities, and [`opcode_bytes`] of its opcodes.
 //!
 //! The machine is defined here, below all crates that carry it out, since it speaks of capabilities and commands
 //! alone: its state, the rows of the verdict table, one step, and runs. That runs keep states valid is proved over
@@ -35,7 +35,7 @@ mod support;
 mod verdict;
 
 pub use answer::{Answer, Effect};
-pub use cap_results::{cap_result, list_words};
+pub use cap_results::{cap_result, list_bytes, list_words};
 pub use capabilities::{DeviceCaps, DriverCaps};
 pub use opcodes::{has_opcode, has_other_opcode, is_opcode_in, opcode_bytes, opcodes_used};
 pub use setting::{CapErr, may_set};
