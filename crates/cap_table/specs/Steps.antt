@@ -1,14 +1,16 @@
 -- One step of the object machine, and its runs. This project's subset of the draft's administration commands.
-use Rattle.std.specs.Prelude.{ℕ, ◌≡◌, ◌≢◌, ◌⊎◌, List, [], ◌∷◌, Option, Some, None}
+use Rattle.std.specs.Prelude.{IsTrue, ℕ, ◌≡◌, ◌≢◌, ◌⊎◌, List, [], ◌∷◌, Option, Some, None}
 use Rattle.ff_headers.specs.Changes.{step}
 use Rattle.byte_numbers.specs.Numbers.{le16_at}
 use Rattle.admin_wire.specs.declared.command.Command.{Command}
 use Rattle.admin_wire.specs.declared.command.Command.TheVariants.{Create, Modify, Destroy}
 use Rattle.admin_wire.specs.declared.command.ObjData.{ObjData}
 use Rattle.admin_wire.specs.declared.command.ObjHead.{ObjHead}
+use Rattle.admin_wire.specs.Layouts.{opcode_for}
+use Rattle.admin_wire.specs.Opcodes.{code_of}
 use Rattle.admin_wire.specs.Replies.{reply_bytes}
 use Rattle.admin_wire.specs.Wire.{Reads}
-use Rattle.cap_table.specs.States.{DeviceState}
+use Rattle.cap_table.specs.States.{DeviceState, is_opcode_in}
 use Rattle.cap_table.specs.Answers.{verdict_of}
 use Rattle.cap_table.specs.declared.answer.Answer.{Answer}
 use Rattle.cap_table.specs.declared.answer.Effect.{Effect}
@@ -59,6 +61,10 @@ status_of reply = le16_at reply 0
 pub record OnlyObeyedChanges (reply : List ℕ) (effect : Effect) : Type 0 where
   pub refused : status_of reply ≢ 0 → effect ≡ Nothing
   pub silent : reply ≡ [] → effect ≡ Nothing
+
+-- the opcode of a command is in use
+abbrev pub IsInUse : DeviceState → Command → Type 0
+IsInUse state command = IsTrue (is_opcode_in state.in_use (code_of (opcode_for command)))
 
 -- ---- commands on one object
 
