@@ -13,6 +13,7 @@
 //! - it gives a command that has a layout of its own, so with no odd list or key, exactly where the bytes begin with
 //!   that layout, field by field;
 //! - `put_command` writes that layout, and what it writes reads as the command;
+//! - `put_object_data` writes an object's data alone, as a query is answered with;
 //! - `put_reply` writes the reply's bytes, cut to the room, and `read_reply` gives a reply back from its whole bytes;
 //! - each call returns; none asks for memory.
 //!
@@ -52,6 +53,7 @@ pub use command::{
 };
 pub use error::WireErr;
 pub use header::opcode_of;
+pub use objects::put_object_data;
 pub use read::read_command;
 pub use reply::{Reply, ReplyBytes, put_reply, read_reply};
 pub use write::put_command;

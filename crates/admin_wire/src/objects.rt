@@ -15,6 +15,7 @@ use crate::command::{CommandBytes, ObjData, ObjHead, RawKey, RawRule};
 use crate::error::WireErr;
 use crate::lists::{list_of, put_list};
 use crate::put_field::{put_8, put_16, put_32, put_64, put_raw, put_reserved};
+use arrayvec::ArrayVec;
 use byte_numbers::{le16_at, le32_at, le64_at};
 use ff_headers::Key;
 
@@ -185,4 +186,16 @@ pub(crate) fn put_object(bytes: &mut CommandBytes, object: &ObjData)
         ObjData::Rule(rule) => put_rule(bytes, rule),
         ObjData::Other => {}
     }
+}
+
+/// The bytes of an object's data, with 0 in reserved ones.
+pub fn put_object_data(object: &ObjData) -> ArrayVec<u8, 264>
+    requires { length (written (object_fields object.now)) ≤ most_command_bytes }
+    ensures { result.items ≡ written (object_fields object.now) }
+{
+    let mut bytes = CommandBytes::new();
+    put_object(&mut bytes, object);
+    let mut told = ArrayVec::new();
+    told.try_extend_from_slice(bytes.as_slice()).unwrap();
+    told
 }

@@ -1,5 +1,5 @@
 -- The definitions on small values: the bitmap and the bytes of a device's capabilities, and the first fault of a set.
-use Rattle.std.proofs.Common.{◌≡◌, ℕ, refl, true, false, List, [], ◌∷◌, ◌++◌, replicate, Some, None}
+use Rattle.std.proofs.Common.{◌≡◌, refl, true, [], ◌∷◌, ◌++◌, replicate, Some, None}
 use Rattle.ff_headers.specs.declared.kind.Kind.TheVariants.{Eth, Udp}
 use Rattle.ff_headers.specs.declared.limits.Limits.{Limits}
 use Rattle.ff_headers.specs.SelectorParts.{SelectorParts, selector_with}

@@ -1,11 +1,13 @@
 -- What holds of every answer: its status isn't ENOMEM, and where the status isn't 0 there is no effect.
 use Rattle.std.proofs.Common.{◌≡◌, ◌≢◌, ℕ, zero, suc, ◌<◌, ◌≤◌, ◌^◌, ◌∙◌, take, Bool, true, false, cond, List, [], ◌∷◌, ◌++◌, Option, Some, None, Result, Ok, Err, refl, sym, ap, subst, arith}
 use Rattle.std.specs.Prelude.{nat_lt}
+use Rattle.std.proofs.lemmas.Bool.{le-ltb}
 use Rattle.std.proofs.lemmas.Bool.Decides.{nat_tests}
 use Rattle.std.proofs.lemmas.Nat.{from_le_bytes-to_le_bytes_2}
 use Rattle.ff_headers.specs.Objects.{FlowObjects}
 use Rattle.admin_wire.specs.declared.command.Command.{Command}
-use Rattle.admin_wire.specs.declared.command.Command.TheVariants.{Create}
+use Rattle.admin_wire.specs.declared.command.Command.TheVariants.{Create, Modify}
+use Rattle.admin_wire.specs.declared.command.ObjData.{ObjData}
 use Rattle.admin_wire.specs.declared.command.ObjData.TheVariants as objs
 use Rattle.admin_wire.specs.declared.error.WireErr.{WireErr}
 use Rattle.admin_wire.specs.declared.reply.Reply.{Reply}
@@ -15,8 +17,9 @@ use Rattle.admin_wire.specs.Wire.{command_of}
 use Rattle.admin_wire.specs.Headers.{opcode_of}
 use Rattle.cap_table.specs.Caps.{CapsParts, DriverParts}
 use Rattle.cap_table.specs.States.{DeviceState}
-use Rattle.cap_table.specs.Rows.{Row, first_verdict, no_memory}
-use Rattle.cap_table.specs.Verdicts.{answer_of, verdict_of, verdict_rows, layout_rows, read_rows, command_rows, accepted, refused, refused_or, obeyed, effect_with, change_of}
+use Rattle.cap_table.specs.Statuses.{no_memory}
+use Rattle.cap_table.specs.Verdicts.{Row, first_verdict, verdict_rows, layout_rows, read_rows, command_rows, given_rows, content_rows}
+use Rattle.cap_table.specs.Answers.{answer_of, verdict_of, accepted, refused, refused_or, obeyed, result_for, effect_for}
 use Rattle.cap_table.specs.Steps.{status_of, OnlyObeyedChanges, reply_in, reply_of, effect_in, effect_of, with_effect, next_state}
 use Rattle.cap_table.specs.declared.verdict.Verdict.{Verdict}
 use Rattle.cap_table.specs.declared.answer.Answer.{Answer}
@@ -46,6 +49,9 @@ enospc = refusal 28 6 (omega arith) (λ e. absurd (omega arith)) (λ e. absurd (
 enxio : IsRefusal (record { status = 6; qualifier = 6 })
 enxio = refusal 6 6 (omega arith) (λ e. absurd (omega arith)) (λ e. absurd (omega arith))
 
+ebusy : IsRefusal (record { status = 16; qualifier = 1 })
+ebusy = refusal 16 1 (omega arith) (λ e. absurd (omega arith)) (λ e. absurd (omega arith))
+
 -- each row is one of a refusal
 abbrev AreRefusals : List Row → Type 0
 AreRefusals [] = Unit {0}
@@ -62,15 +68,20 @@ appended : (rows more : List Row) → AreRefusals rows → AreRefusals more → 
 appended [] more these those = those
 appended (row ∷ rows) more these those = (these.0, appended rows more these.1 those)
 
+content_refusals : (caps : CapsParts) (driver : DriverParts) (objects : FlowObjects) (id : ℕ) (object : ObjData) → AreRefusals (content_rows caps driver objects id object)
+content_refusals caps driver objects id (objs.Group priority) = (einval 3, tt)
+content_refusals caps driver objects id (objs.Classifier list) = (einval 3, (einval 3, (einval 3, tt)))
+content_refusals caps driver objects id (objs.Rule rule) = (einval 3, (enxio, (enxio, (einval 3, (einval 3, (einval 3, (einval 3, (enospc, tt))))))))
+content_refusals caps driver objects id objs.Other = tt
+
+given_refusals : (caps : CapsParts) (driver : DriverParts) (objects : FlowObjects) (command : Command) → AreRefusals (given_rows caps driver objects command)
+given_refusals caps driver objects (Create head object) = content_refusals caps driver objects head.id object
+given_refusals caps driver objects (Modify head object) = content_refusals caps driver objects head.id object
+given_refusals caps driver objects _ = tt
+
 command_refusals : (caps : CapsParts) (driver : DriverParts) (objects : FlowObjects) (command : Command) → AreRefusals (command_rows caps driver objects command)
-command_refusals caps driver objects (Create head (objs.Group priority)) =
-    (einval 3, (einval 3, (eexist, (enospc, (einval 3, tt)))))
-command_refusals caps driver objects (Create head (objs.Classifier list)) =
-    (einval 3, (einval 3, (eexist, (enospc, (einval 3, (einval 3, (einval 3, tt)))))))
-command_refusals caps driver objects (Create head (objs.Rule rule)) =
-    (einval 3, (einval 3, (eexist, (enospc, (einval 3, (enxio, (enxio, (einval 3, (einval 3, (einval 3, (einval 3, (enospc, tt))))))))))))
-command_refusals caps driver objects (Create head objs.Other) = (einval 3, (einval 3, (eexist, (enospc, tt))))
-command_refusals caps driver objects _ = (einval 2, tt)
+command_refusals caps driver objects command =
+    (einval 3, (einval 3, (einval 3, (ebusy, (einval 3, (eexist, (enospc, (enxio, (ebusy, given_refusals caps driver objects command)))))))))
 
 -- a verdict on a command is a refusal
 pub command_refused : (caps : CapsParts) (driver : DriverParts) (objects : FlowObjects) (command : Command) (verdict : Verdict) → first_verdict (command_rows caps driver objects command) ≡ Some verdict → IsRefusal verdict
@@ -85,6 +96,10 @@ verdict_refusals : (state : DeviceState) (bytes : List ℕ) → AreRefusals (ver
 verdict_refusals state bytes =
     appended (layout_rows state.in_use (opcode_of bytes) (command_of bytes)) (read_rows state (command_of bytes)) (einval 1, (einval 2, (einval 4, (einval 5, (einval 1, tt))))) (read_refusals state (command_of bytes))
 
+-- a verdict on bytes is a refusal
+pub verdict_refused : (state : DeviceState) (bytes : List ℕ) (verdict : Verdict) → first_verdict (verdict_rows state bytes) ≡ Some verdict → IsRefusal verdict
+verdict_refused state bytes verdict is = first_is_refusal (verdict_rows state bytes) verdict (verdict_refusals state bytes) is
+
 -- ---- every answer
 
 -- the status is one of 16 bits and isn't ENOMEM, and there is no effect where it isn't 0
@@ -93,24 +108,24 @@ record IsRight (answer : Answer) : Type 0 where
   pub other : answer.reply.status ≢ 12
   pub effect : answer.reply.status ≢ 0 → answer.effect ≡ effects.Nothing
 
-obeyed_is_right : (effect : Effect) → IsRight (obeyed effect)
-obeyed_is_right effect = record {
+obeyed_is_right : (told : List ℕ) (effect : Effect) → IsRight (obeyed told effect)
+obeyed_is_right told effect = record {
   fits = omega arith;
   other = λ e. absurd (omega arith);
   effect = λ nonzero. absurd (nonzero refl);
 }
 
-accepted_is_right : (read : Result Command WireErr) → IsRight (accepted read)
-accepted_is_right (Ok command) = let effect : Effect = effect_with (change_of command) in obeyed_is_right effect
-accepted_is_right (Err fault) = obeyed_is_right effects.Nothing
+accepted_is_right : (state : DeviceState) (read : Result Command WireErr) → IsRight (accepted state read)
+accepted_is_right state (Ok command) = obeyed_is_right (result_for state.caps state.objects command) (effect_for state.driver command)
+accepted_is_right state (Err fault) = obeyed_is_right [] effects.Nothing
 
 answer_is_right : (state : DeviceState) (bytes : List ℕ) → IsRight (answer_of state bytes)
 unfolding answer_of
 answer_is_right state bytes = by_verdict (first_verdict (verdict_rows state bytes)) refl where
-  by_verdict : (o : Option Verdict) → first_verdict (verdict_rows state bytes) ≡ o → IsRight (refused_or o (accepted (command_of bytes)))
-  by_verdict None is = accepted_is_right (command_of bytes)
+  by_verdict : (o : Option Verdict) → first_verdict (verdict_rows state bytes) ≡ o → IsRight (refused_or o (accepted state (command_of bytes)))
+  by_verdict None is = accepted_is_right state (command_of bytes)
   by_verdict (Some verdict) is =
-      let refused = first_is_refusal (verdict_rows state bytes) verdict (verdict_refusals state bytes) is in
+      let refused = verdict_refused state bytes verdict is in
       record { fits = refused.fits; other = refused.other; effect = λ _. refl }
 
 -- ---- the reply's bytes
@@ -162,6 +177,15 @@ every_reply state bytes room = by_test (nat_lt room 8) refl where
       let answer = answer_of state bytes in
       let text : reply_bytes answer.reply room ≡ take room (whole_reply answer.reply) = ap (λ b. cond b [] (take room (whole_reply answer.reply))) e in
       subst (λ (r : List ℕ). IsRightReply r answer.effect) (sym text) (right_reply answer room (answer_is_right state bytes) le)
+
+-- where there is room, the reply begins with the answer's status
+pub status_is : (state : DeviceState) (bytes : List ℕ) (room : ℕ) → 8 ≤ room → status_of (reply_of state bytes room) ≡ (answer_of state bytes).reply.status
+unfolding verdict_of
+status_is state bytes room enough =
+    let answer = answer_of state bytes in
+    let right = answer_is_right state bytes in
+    let text : reply_of state bytes room ≡ take room (whole_reply answer.reply) = ap (λ b. reply_in (cond b None (Some answer)) room) (le-ltb room 8 enough) ∙ ap (λ b. cond b [] (take room (whole_reply answer.reply))) (le-ltb room 8 enough) in
+    ap status_of text ∙ written answer.reply room enough right.fits
 
 -- no reply says that memory ran out
 pub never_no_memory : (state : DeviceState) (bytes : List ℕ) (room : ℕ) → status_of (reply_of state bytes room) ≢ no_memory.status

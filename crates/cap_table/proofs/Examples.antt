@@ -1,19 +1,19 @@
 -- Verdicts computed from the definitions: commands over states that a script can't make yet.
-use Rattle.std.proofs.Common.{◌≡◌, ℕ, true, false, List, [], ◌∷◌, ◌++◌, replicate, refl}
+use Rattle.std.proofs.Common.{◌≡◌, ℕ, List, [], ◌∷◌, ◌++◌, replicate, refl}
 use Rattle.ff_headers.specs.declared.kind.Kind.TheVariants.{Eth}
 use Rattle.ff_headers.specs.declared.limits.Limits.{Limits}
-use Rattle.ff_headers.specs.SelectorParts.{SelectorParts, selector_with}
+use Rattle.ff_headers.specs.SelectorParts.{selector_with}
 use Rattle.ff_headers.specs.Fields.{is_allowed}
 use Rattle.ff_headers.specs.Shapes.{shape_fault}
 use Rattle.byte_numbers.specs.Numbers.{le16_at, le32_at, le64_at}
 use Rattle.admin_wire.specs.Lists.{whole_entry, entries_of, selector_of, raw_list, list_of}
-use Rattle.admin_wire.specs.Objects.{head_of, group_of, classifier_of, raw_key, rule_of, object_of, head_and_object}
+use Rattle.admin_wire.specs.Objects.{head_of, group_of, classifier_of, object_of, head_and_object}
 use Rattle.admin_wire.specs.Headers.{header_of, opcode_of}
 use Rattle.admin_wire.specs.Wire.{data_of, command_of}
-use Rattle.ff_headers.specs.Objects.{FlowObjects, no_objects}
+use Rattle.ff_headers.specs.Objects.{no_objects}
 use Rattle.cap_table.specs.Caps.{CapsParts, DriverParts, unset, same_as}
 use Rattle.cap_table.specs.States.{DeviceState, all_opcodes, first_opcodes}
-use Rattle.cap_table.specs.Verdicts.{answer_of}
+use Rattle.cap_table.specs.Answers.{answer_of}
 
 limits : Limits
 limits = record { groups = 2; classifiers = 4; rules = 8; per_group = 8; last_priority = 15; selectors = 3 }

@@ -3,8 +3,11 @@ use Rattle.std.proofs.Common.{◌≡◌, ℕ, Bool, true, false, not, ◌&&◌, 
 use Rattle.admin_wire.specs.declared.command.Command.{Command}
 use Rattle.admin_wire.specs.declared.error.WireErr.{WireErr}
 use Rattle.admin_wire.specs.declared.error.WireErr.TheVariants as wire_err
-use Rattle.cap_table.specs.Rows.{Row, first_verdict, invalid_command, invalid_opcode, invalid_group, invalid_member}
-use Rattle.cap_table.specs.Verdicts.{RuleFaults, rule_rows, layout_rows, is_header_cut, is_opcode_unknown, is_opcode_unused, is_group_other, is_member_other, is_data_cut}
+use Rattle.ff_headers.specs.Objects.{FlowObjects}
+use Rattle.cap_table.specs.Caps.{CapsParts, DriverParts}
+use Rattle.cap_table.specs.Statuses.{invalid_command, invalid_opcode, invalid_group, invalid_member}
+use Rattle.cap_table.specs.Verdicts.{Row, first_verdict, RuleFaults, rule_rows, layout_rows, is_header_cut, is_opcode_unknown, is_opcode_unused, is_group_other, is_member_other, is_data_cut}
+use Rattle.cap_table.specs.Verdicts.{command_rows, given_rows, has_flags, is_unknown, has_other_opcode, is_set_late, is_set_refused, is_id_taken, is_limit_reached, is_missing, is_needed}
 
 -- no row holds
 abbrev pub NoneHolds : List Row → Type 0
@@ -37,6 +40,36 @@ back_of_none (row ∷ rows) more h = by_test row.0 h (back_of_none rows more) wh
   by_test : (b : Bool) → cond b (Some row.1) (first_verdict (rows ++ more)) ≡ None → (first_verdict (rows ++ more) ≡ None → first_verdict more ≡ None) → first_verdict more ≡ None
   by_test true k rest = absurd cc
   by_test false k rest = rest k
+
+-- no row holds of a command that is laid out
+pub record IsClear (caps : CapsParts) (driver : DriverParts) (objects : FlowObjects) (command : Command) : Type 0 where
+  pub no_flags : has_flags command ≡ false
+  pub known : is_unknown command ≡ false
+  pub own_opcodes : has_other_opcode command ≡ false
+  pub in_time : is_set_late objects command ≡ false
+  pub settable : is_set_refused caps command ≡ false
+  pub new : is_id_taken objects command ≡ false
+  pub room : is_limit_reached driver objects command ≡ false
+  pub held : is_missing objects command ≡ false
+  pub unneeded : is_needed objects command ≡ false
+  pub content : NoneHolds (given_rows caps driver objects command)
+
+pub clear : (caps : CapsParts) (driver : DriverParts) (objects : FlowObjects) (command : Command) → first_verdict (command_rows caps driver objects command) ≡ None → IsClear caps driver objects command
+clear caps driver objects command is = let none = none_holds (command_rows caps driver objects command) is in record {
+  no_flags = none.0;
+  known = none.1.0;
+  own_opcodes = none.1.1.0;
+  in_time = none.1.1.1.0;
+  settable = none.1.1.1.1.0;
+  new = none.1.1.1.1.1.0;
+  room = none.1.1.1.1.1.1.0;
+  held = none.1.1.1.1.1.1.1.0;
+  unneeded = none.1.1.1.1.1.1.1.1.0;
+  content = none.1.1.1.1.1.1.1.1.1;
+}
+
+pub no_row_if_clear : (caps : CapsParts) (driver : DriverParts) (objects : FlowObjects) (command : Command) → IsClear caps driver objects command → first_verdict (command_rows caps driver objects command) ≡ None
+no_row_if_clear caps driver objects command is = no_verdict (command_rows caps driver objects command) (is.no_flags, (is.known, (is.own_opcodes, (is.in_time, (is.settable, (is.new, (is.room, (is.held, (is.unneeded, is.content)))))))))
 
 -- nothing is wrong with the content of a rule
 pub record IsSoundContent (faults : RuleFaults) : Type 0 where

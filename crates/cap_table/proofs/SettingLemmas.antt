@@ -1,5 +1,5 @@
 -- What isn't refused can be set, and stays within what the device offers.
-use Rattle.std.proofs.Common.{◌≡◌, ℕ, ◌≤◌, refl, sym, arith, Bool, true, false, not, cond, ◌||◌, ltb, List, Option, Some, None, Result, Ok, Err, IsOk, All}
+use Rattle.std.proofs.Common.{◌≡◌, refl, sym, arith, Bool, true, false, not, cond, ◌||◌, Some, None, Result, Ok, Err, IsOk, All}
 use Rattle.std.specs.Result.{result_err}
 use Rattle.std.proofs.lemmas.Bool.Decides.{nat_tests}
 use Rattle.arrayvec.specs.ArrayVec.{ArrayVec}
@@ -60,16 +60,36 @@ test_fails : {X : Type 0} (test : Bool) (fault : X) → cond test (Some fault) N
 test_fails true fault none = absurd cc
 test_fails false fault none = refl
 
-pub within_if_no_fault : (device : CapsParts) (driver : DriverParts) (wanted : CapData) → HasCapLayout wanted
+-- the masks of a list have their headers' sizes
+abbrev pub IsWholeList : RawList → Type 0
+IsWholeList (Good list) = All IsWhole list.items
+IsWholeList Odd = Unit {0}
+
+abbrev pub IsWholeCap : CapData → Type 0
+IsWholeCap (caps.Selectors list) = IsWholeList list
+IsWholeCap _ = Unit {0}
+
+pub within_if_whole : (device : CapsParts) (driver : DriverParts) (wanted : CapData) → IsWholeCap wanted
     → cap_fault device wanted ≡ None → IsWithin device driver → IsWithin device (with_cap driver wanted)
 unfolding cap_fault
-within_if_no_fault device driver (caps.Limits limits) has none within =
+within_if_whole device driver (caps.Limits limits) whole none within =
     record { limits = none_above device.limits limits (test_fails _ _ none); selectors = within.selectors }
-within_if_no_fault device driver (caps.Selectors (Good list)) has none within = record {
+within_if_whole device driver (caps.Selectors (Good list)) whole none within = record {
   limits = within.limits;
-  selectors = selectors_that_rise list (settable_if_no_fault device (caps.Selectors (Good list)) none) has.1;
+  selectors = selectors_that_rise list (settable_if_no_fault device (caps.Selectors (Good list)) none) whole;
 }
-within_if_no_fault device driver (caps.Selectors Odd) has none within = absurd cc
-within_if_no_fault device driver (caps.Actions actions) has none within =
+within_if_whole device driver (caps.Selectors Odd) whole none within = absurd cc
+within_if_whole device driver (caps.Actions actions) whole none within =
     record { limits = within.limits; selectors = within.selectors }
-within_if_no_fault device driver (caps.Other id) has none within = absurd cc
+within_if_whole device driver (caps.Other id) whole none within = absurd cc
+
+whole_if_laid_out : (wanted : CapData) → HasCapLayout wanted → IsWholeCap wanted
+whole_if_laid_out (caps.Limits limits) has = tt
+whole_if_laid_out (caps.Selectors (Good list)) has = has.1
+whole_if_laid_out (caps.Selectors Odd) has = tt
+whole_if_laid_out (caps.Actions actions) has = tt
+whole_if_laid_out (caps.Other id) has = tt
+
+pub within_if_no_fault : (device : CapsParts) (driver : DriverParts) (wanted : CapData) → HasCapLayout wanted
+    → cap_fault device wanted ≡ None → IsWithin device driver → IsWithin device (with_cap driver wanted)
+within_if_no_fault device driver wanted has = within_if_whole device driver wanted (whole_if_laid_out wanted has)

@@ -1,6 +1,9 @@
--- What an effect of the machine is: nothing, or the change of an accepted command. So valid states stay valid.
-use Rattle.std.proofs.Common.{◌≡◌, ℕ, Bool, true, false, cond, List, [], ◌∷◌, Option, Some, None, Result, Ok, Err, refl, subst, arith, inl, inr}
-use Rattle.std.specs.Prelude.{nat_lt}
+-- What an effect of the machine is: nothing, opcodes with the two that always are in use, capabilities within the device's, or
+-- the change of an accepted command. So valid states stay valid.
+use Rattle.std.proofs.Common.{◌≡◌, ℕ, ◌∙◌, Bool, true, false, cond, List, [], ◌∷◌, Option, Some, None, Result, Ok, Err, refl, subst, arith, inl, inr}
+use Rattle.std.specs.Prelude.{nat_lt, is_some}
+use Rattle.std.specs.Int.{bit_at}
+use Rattle.std.proofs.lemmas.Nat.Bits.{bit_at_or, bit_at-lt}
 use Rattle.std.specs.List.{AllByRecursion}
 use Rattle.std.specs.Ordering.{nat_cmp}
 use Rattle.std.specs.BTreeMap.{is_at}
@@ -14,21 +17,26 @@ use Rattle.ff_headers.specs.declared.change.Change.{Change}
 use Rattle.ff_headers.specs.declared.change.Change.TheVariants.{PutGroup, DropGroup, PutClassifier, DropClassifier, PutRule, DropRule, Close}
 use Rattle.ff_headers.proofs.ChangeLemmas.{step_keeps, none_are_well_formed}
 use Rattle.admin_wire.specs.declared.command.Command.{Command}
+use Rattle.admin_wire.specs.declared.command.Command.TheVariants.{ListQuery, ListUse, CapIds, CapGet, CapSet, Create, Modify, Query, Destroy}
 use Rattle.admin_wire.specs.declared.error.WireErr.{WireErr}
 use Rattle.admin_wire.specs.Wire.{command_of}
 use Rattle.admin_wire.specs.Headers.{opcode_of}
 use Rattle.cap_table.specs.Caps.{CapsParts, AreCaps}
 use Rattle.cap_table.specs.States.{DeviceState, QueuesWithin, IsValid, start_state}
-use Rattle.cap_table.specs.Rows.{first_verdict}
-use Rattle.cap_table.specs.Verdicts.{answer_of, verdict_of, verdict_rows, layout_rows, read_rows, command_rows, accepted, refused_or, effect_with, change_of}
+use Rattle.cap_table.specs.CapSets.{cap_fault, IsWithin}
+use Rattle.cap_table.specs.Verdicts.{first_verdict, verdict_rows, layout_rows, read_rows, command_rows}
+use Rattle.cap_table.specs.Answers.{answer_of, verdict_of, accepted, refused_or, effect_with, effect_for, change_of, opcodes_used}
 use Rattle.cap_table.specs.Steps.{effect_of, effect_in, with_effect, next_state, state_after, IsEffect}
 use Rattle.cap_table.specs.declared.start.Start.{Start}
 use Rattle.cap_table.specs.declared.start.Start.TheVariants.{Ready, Reset}
 use Rattle.cap_table.specs.declared.verdict.Verdict.{Verdict}
 use Rattle.cap_table.specs.declared.answer.Effect.{Effect}
 use Rattle.cap_table.specs.declared.answer.Effect.TheVariants as effects
-use Rattle.cap_table.proofs.RowLemmas.{back_of_none}
-use Rattle.cap_table.proofs.AcceptedCreates.{IsAccepted, accepted_change}
+use Rattle.cap_table.specs.declared.setting.CapErr.{CapErr}
+use Rattle.cap_table.proofs.RowLemmas.{back_of_none, clear}
+use Rattle.cap_table.proofs.AcceptedChanges.{IsAccepted, accepted_change}
+use Rattle.cap_table.proofs.SettingLemmas.{within_if_whole}
+use Rattle.cap_table.proofs.ReadCommands.{cap_whole}
 
 -- how two ids compare
 data ComparesTo (a b : ℕ) : Type 0 where
@@ -62,28 +70,51 @@ all_without P (e ∷ es) id all = by_test (is_at (nat_cmp id) e.0) (all_without 
   by_test true rest = all.1
   by_test false rest = (all.0, rest)
 
--- nothing, or the change of an accepted command
+-- nothing, opcodes with the two that always are in use, capabilities within the device's, or the change of an accepted command
 abbrev pub IsSafe : DeviceState → Effect → Type 0
 IsSafe state effects.Nothing = Unit {0}
+IsSafe state (effects.Use opcodes) = (bit_at opcodes 0 ≡ 1) × (bit_at opcodes 1 ≡ 1)
+IsSafe state (effects.Caps driver) = IsWithin state.caps driver
 IsSafe state (effects.Change change) = IsAccepted state.caps state.objects change
+
+-- the two opcodes stay
+bit_stays : (bitmap i : ℕ) → bit_at 3 i ≡ 1 → bit_at (opcodes_used bitmap) i ≡ 1
+bit_stays bitmap i is = bit_at_or bitmap 3 i ∙ (let one = bit_at-lt bitmap i in omega (arith, is, one))
+
+no_fault : (o : Option CapErr) → is_some o ≡ false → o ≡ None
+no_fault None is = refl
+no_fault (Some fault) is = absurd cc
 
 module _ (state : DeviceState) (valid : IsValid state) where
   safe_change : (command : Command) → first_verdict (command_rows state.caps state.driver state.objects command) ≡ None → (change : Option Change) → change_of command ≡ change → IsSafe state (effect_with change)
   safe_change command none None is = tt
   safe_change command none (Some change) is = accepted_change state.caps state.driver state.objects valid.limits command none change is
 
-  safe_read : (read : Result Command WireErr) → first_verdict (read_rows state read) ≡ None → IsSafe state (accepted read).effect
-  safe_read (Ok command) none = safe_change command none (change_of command) refl
-  safe_read (Err fault) none = tt
+  safe_command : (bytes : List ℕ) (command : Command) → command_of bytes ≡ Ok command → first_verdict (command_rows state.caps state.driver state.objects command) ≡ None → IsSafe state (effect_for state.driver command)
+  safe_command bytes ListQuery read none = tt
+  safe_command bytes (ListUse bitmap) read none = (bit_stays bitmap 0 refl, bit_stays bitmap 1 refl)
+  safe_command bytes CapIds read none = tt
+  safe_command bytes (CapGet id) read none = tt
+  safe_command bytes (CapSet cap) read none =
+      let is = clear state.caps state.driver state.objects (CapSet cap) none in
+      within_if_whole state.caps state.driver cap (cap_whole bytes cap read) (no_fault (cap_fault state.caps cap) is.settable) (record { limits = valid.limits; selectors = valid.selectors })
+  safe_command bytes (Create head object) read none = safe_change (Create head object) none _ refl
+  safe_command bytes (Modify head object) read none = safe_change (Modify head object) none _ refl
+  safe_command bytes (Query head) read none = tt
+  safe_command bytes (Destroy head) read none = safe_change (Destroy head) none _ refl
+
+  safe_read : (bytes : List ℕ) (read : Result Command WireErr) → command_of bytes ≡ read → first_verdict (read_rows state read) ≡ None → IsSafe state (accepted state read).effect
+  safe_read bytes (Ok command) is none = safe_command bytes command is none
+  safe_read bytes (Err fault) is none = tt
 
   safe_answer : (bytes : List ℕ) → IsSafe state (answer_of state bytes).effect
   unfolding answer_of
   safe_answer bytes = by_verdict (first_verdict (verdict_rows state bytes)) refl where
-    by_verdict : (o : Option Verdict) → first_verdict (verdict_rows state bytes) ≡ o → IsSafe state (refused_or o (accepted (command_of bytes))).effect
+    by_verdict : (o : Option Verdict) → first_verdict (verdict_rows state bytes) ≡ o → IsSafe state (refused_or o (accepted state (command_of bytes))).effect
     by_verdict (Some verdict) is = tt
     by_verdict None is =
         let rest = back_of_none (layout_rows state.in_use (opcode_of bytes) (command_of bytes)) (read_rows state (command_of bytes)) is in
-        safe_read (command_of bytes) rest
+        safe_read bytes (command_of bytes) refl rest
 
   safe_effect : (bytes : List ℕ) (room : ℕ) → IsSafe state (effect_of state bytes room)
   unfolding verdict_of
@@ -110,6 +141,22 @@ module _ (state : DeviceState) (valid : IsValid state) where
   valid_with : (effect : Effect) → IsSafe state effect → IsValid (with_effect state effect)
   unfolding step
   valid_with effects.Nothing safe = valid
+  valid_with (effects.Use opcodes) safe = record {
+    objects = valid.objects;
+    limits = valid.limits;
+    selectors = valid.selectors;
+    queues = valid.queues;
+    list_query = safe.0;
+    list_use = safe.1;
+  }
+  valid_with (effects.Caps driver) safe = record {
+    objects = valid.objects;
+    limits = safe.limits;
+    selectors = safe.selectors;
+    queues = valid.queues;
+    list_query = valid.list_query;
+    list_use = valid.list_use;
+  }
   valid_with (effects.Change change) safe = record {
     objects = step_keeps state.caps.limits state.objects valid.objects change safe.shaped;
     limits = valid.limits;

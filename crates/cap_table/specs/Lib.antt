@@ -2,6 +2,7 @@ pub mod Caps
 pub mod CapSets
 pub mod CapResults
 pub mod States
-pub mod Rows
+pub mod Statuses
 pub mod Verdicts
+pub mod Answers
 pub mod Steps

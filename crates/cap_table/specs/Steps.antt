@@ -1,13 +1,20 @@
 -- One step of the object machine, and its runs. This project's subset of the draft's administration commands.
-use Rattle.std.specs.Prelude.{ℕ, ◌≡◌, ◌≢◌, List, [], ◌∷◌, Option, Some, None}
+use Rattle.std.specs.Prelude.{IsTrue, ℕ, ◌≡◌, ◌≢◌, ◌⊎◌, List, [], ◌∷◌, Option, Some, None}
 use Rattle.ff_headers.specs.Changes.{step}
 use Rattle.byte_numbers.specs.Numbers.{le16_at}
+use Rattle.admin_wire.specs.declared.command.Command.{Command}
+use Rattle.admin_wire.specs.declared.command.Command.TheVariants.{Create, Modify, Destroy}
+use Rattle.admin_wire.specs.declared.command.ObjData.{ObjData}
+use Rattle.admin_wire.specs.declared.command.ObjHead.{ObjHead}
+use Rattle.admin_wire.specs.Layouts.{opcode_for}
+use Rattle.admin_wire.specs.Opcodes.{code_of}
 use Rattle.admin_wire.specs.Replies.{reply_bytes}
-use Rattle.cap_table.specs.States.{DeviceState}
-use Rattle.cap_table.specs.Verdicts.{verdict_of}
+use Rattle.admin_wire.specs.Wire.{Reads}
+use Rattle.cap_table.specs.States.{DeviceState, is_opcode_in}
+use Rattle.cap_table.specs.Answers.{verdict_of}
 use Rattle.cap_table.specs.declared.answer.Answer.{Answer}
 use Rattle.cap_table.specs.declared.answer.Effect.{Effect}
-use Rattle.cap_table.specs.declared.answer.Effect.TheVariants.{Nothing, Change}
+use Rattle.cap_table.specs.declared.answer.Effect.TheVariants.{Nothing, Use, Caps, Change}
 
 -- the reply's bytes: status, qualifier, four zero bytes and the result, cut to the room
 abbrev pub reply_in : Option Answer → ℕ → List ℕ
@@ -21,6 +28,8 @@ effect_in (Some answer) = answer.effect
 -- the state with an effect: a change is made where it is sound within the device's limits
 abbrev pub with_effect : DeviceState → Effect → DeviceState
 with_effect state Nothing = state
+with_effect state (Use opcodes) = record state { in_use = opcodes }
+with_effect state (Caps driver) = record state { driver = driver }
 with_effect state (Change change) = record state { objects = step state.caps.limits state.objects change }
 
 -- the effect of a command
@@ -52,3 +61,24 @@ status_of reply = le16_at reply 0
 pub record OnlyObeyedChanges (reply : List ℕ) (effect : Effect) : Type 0 where
   pub refused : status_of reply ≢ 0 → effect ≡ Nothing
   pub silent : reply ≡ [] → effect ≡ Nothing
+
+-- the opcode of a command is in use
+abbrev pub IsInUse : DeviceState → Command → Type 0
+IsInUse state command = IsTrue (is_opcode_in state.in_use (code_of (opcode_for command)))
+
+-- ---- commands on one object
+
+-- the bytes create or modify an object
+abbrev pub Puts : List ℕ → ObjHead → ObjData → Type 0
+Puts bytes head object = Reads bytes (Create head object) ⊎ Reads bytes (Modify head object)
+
+-- the command creates, modifies or destroys the object of a type and id
+abbrev pub IsAbout : ℕ → ℕ → Command → Type 0
+IsAbout type_code id (Create head object) = (head.type_code ≡ type_code) × (head.id ≡ id)
+IsAbout type_code id (Modify head object) = (head.type_code ≡ type_code) × (head.id ≡ id)
+IsAbout type_code id (Destroy head) = (head.type_code ≡ type_code) × (head.id ≡ id)
+IsAbout type_code id _ = ⊥
+
+-- the bytes lay out no such command
+abbrev pub IsElsewhere : ℕ → ℕ → List ℕ × ℕ → Type 0
+IsElsewhere type_code id sent = (command : Command) → Reads sent.0 command → ¬ IsAbout type_code id command

@@ -1,23 +1,17 @@
--- The verdict on a command: one list of rows over the bytes and the state, of which the first that holds decides. The
--- commands are the Virtio 1.4 draft's (administration commands, resource objects); the rows and their order are this
--- project's own. Of the commands, creates are read so far.
-use Rattle.std.specs.Prelude.{ℕ, Bool, true, false, not, ◌&&◌, ◌||◌, ◌==◌, if◌then◌else◌, nat_lt, nat_le, is_some, List, [], ◌∷◌, ◌++◌, length}
+-- The verdict on a command: one list of rows over its bytes and the state, of which the first that holds decides. The
+-- commands are the Virtio 1.4 draft's (group administration commands, device capabilities, resource objects); the rows
+-- and their order are this project's own.
+use Rattle.std.specs.Prelude.{ℕ, Bool, true, false, not, ◌&&◌, ◌||◌, ◌==◌, if◌then◌else◌, nat_lt, nat_le, bit_and, is_some, List, [], ◌∷◌, ◌++◌, length}
 use Rattle.std.specs.Prelude.{Option, Some, None, Result, Ok, Err}
 use Rattle.std.specs.Option.{option_map_or}
 use Rattle.ff_headers.specs.SelectorParts.{SelectorParts}
-use Rattle.ff_headers.specs.RuleParts.{RuleParts}
 use Rattle.ff_headers.specs.Shapes.{shape_fault}
 use Rattle.ff_headers.specs.Matching.{key_size}
 use Rattle.ff_headers.specs.Objects.{FlowObjects, object_under}
 use Rattle.ff_headers.specs.Dependents.{other_rules_in_group}
-use Rattle.ff_headers.specs.Changes.{is_priority_taken}
-use Rattle.ff_headers.specs.declared.rule.RuleAction.{RuleAction}
-use Rattle.ff_headers.specs.declared.rule.RuleAction.TheVariants.{Drop, Queue}
-use Rattle.ff_headers.specs.declared.change.Change.{Change}
-use Rattle.ff_headers.specs.declared.change.Change.TheVariants.{PutGroup, PutClassifier, PutRule}
+use Rattle.ff_headers.specs.Changes.{is_priority_taken, names_group, names_classifier}
 use Rattle.admin_wire.specs.declared.command.Command.{Command}
-use Rattle.admin_wire.specs.declared.command.Command.TheVariants.{Create}
-use Rattle.admin_wire.specs.declared.command.ObjHead.{ObjHead}
+use Rattle.admin_wire.specs.declared.command.Command.TheVariants.{ListUse, CapGet, CapSet, Create, Modify, Query, Destroy}
 use Rattle.admin_wire.specs.declared.command.ObjData.{ObjData}
 use Rattle.admin_wire.specs.declared.command.ObjData.TheVariants.{Group, Classifier, Rule, Other}
 use Rattle.admin_wire.specs.declared.command.RawList.{RawList}
@@ -27,19 +21,37 @@ use Rattle.admin_wire.specs.declared.command.RawKey.{RawKey}
 use Rattle.admin_wire.specs.declared.command.RawKey.TheVariants as raw_key
 use Rattle.admin_wire.specs.declared.error.WireErr.{WireErr}
 use Rattle.admin_wire.specs.declared.error.WireErr.TheVariants as wire_err
-use Rattle.admin_wire.specs.declared.reply.Reply.{Reply}
-use Rattle.admin_wire.specs.Wire.{command_of}
+use Rattle.admin_wire.specs.Codes.{queue_action, group_type, classifier_type, rule_type}
 use Rattle.admin_wire.specs.Headers.{opcode_of}
-use Rattle.admin_wire.specs.Codes.{drop_action, queue_action}
 use Rattle.admin_wire.specs.Layouts.{key_bytes}
+use Rattle.admin_wire.specs.Wire.{command_of}
 use Rattle.cap_table.specs.Caps.{CapsParts, DriverParts, are_supported, is_action_set}
-use Rattle.cap_table.specs.States.{DeviceState, is_opcode_in, is_receive_queue}
-use Rattle.cap_table.specs.Rows.{Row, first_verdict, invalid_command, invalid_opcode, invalid_field, invalid_group}
-use Rattle.cap_table.specs.Rows.{invalid_member, already_there, no_space, no_object}
+use Rattle.cap_table.specs.CapSets.{is_id_unknown, cap_fault}
+use Rattle.cap_table.specs.CapResults.{is_cap}
+use Rattle.cap_table.specs.States.{DeviceState, all_opcodes, is_opcode_in, is_receive_queue}
+use Rattle.cap_table.specs.Statuses.{invalid_command, invalid_opcode, invalid_field, invalid_group, invalid_member}
+use Rattle.cap_table.specs.Statuses.{already_there, no_space, no_object, busy}
 use Rattle.cap_table.specs.declared.verdict.Verdict.{Verdict}
-use Rattle.cap_table.specs.declared.answer.Answer.{Answer}
-use Rattle.cap_table.specs.declared.answer.Effect.{Effect}
-use Rattle.cap_table.specs.declared.answer.Effect.TheVariants as effects
+
+-- ---- rows
+
+-- a condition, and the verdict where it holds
+abbrev pub Row : Type 0
+Row = Bool × Verdict
+
+-- the verdict of the first row that holds
+abbrev pub first_verdict : List Row → Option Verdict
+first_verdict [] = None
+first_verdict (row ∷ rows) = if row.0 then Some row.1 else first_verdict rows
+
+-- what is asked for, unless there is a verdict against it
+abbrev pub ok_unless : {X : Type 0} → Option Verdict → X → Result X Verdict
+ok_unless None asked = Ok asked
+ok_unless (Some verdict) asked = Err verdict
+
+-- what is asked for, unless a row holds
+abbrev pub unless_refused : {X : Type 0} → List Row → X → Result X Verdict
+unless_refused rows asked = ok_unless (first_verdict rows) asked
 
 -- ---- bytes that lay out no command that is in use
 
@@ -83,30 +95,102 @@ layout_rows in_use opcode read =
     ∷ (is_data_cut read, invalid_command)
     ∷ []
 
--- ---- the object that a create is to make
+-- ---- what no state of the device allows
 
--- the flags aren't 0: none is defined
-abbrev pub has_flags : ObjHead → Bool
-has_flags head = not (head.flags == 0)
+-- there are flags, and none is defined
+abbrev pub has_flags : Command → Bool
+has_flags (Create head object) = not (head.flags == 0)
+has_flags (Modify head object) = not (head.flags == 0)
+has_flags (Query head) = not (head.flags == 0)
+has_flags _ = false
 
--- the object type is none that the device has
-abbrev pub is_type_unknown : ObjData → Bool
-is_type_unknown Other = true
-is_type_unknown _ = false
+-- the device has objects of this type
+abbrev pub is_object_type : ℕ → Bool
+is_object_type type_code = (type_code == group_type) || (type_code == classifier_type) || (type_code == rule_type)
+
+-- the type of an object's data; one that isn't known counts as 0, which is no type
+abbrev pub type_of : ObjData → ℕ
+type_of (Group _) = group_type
+type_of (Classifier _) = classifier_type
+type_of (Rule _) = rule_type
+type_of Other = 0
+
+-- the type of the object, or the id of the capability, is none that the device has
+abbrev pub is_unknown : Command → Bool
+is_unknown (CapGet id) = not (is_cap id)
+is_unknown (CapSet cap) = is_id_unknown cap
+is_unknown (Create head object) = not (is_object_type (type_of object))
+is_unknown (Modify head object) = not (is_object_type (type_of object))
+is_unknown (Query head) = not (is_object_type head.type_code)
+is_unknown (Destroy head) = not (is_object_type head.type_code)
+is_unknown _ = false
+
+-- the bitmap has a bit that is none of the device's opcodes
+abbrev pub has_other_opcode : Command → Bool
+has_other_opcode (ListUse bitmap) = not (bit_and bitmap all_opcodes == bitmap)
+has_other_opcode _ = false
+
+-- ---- a capability that is to be set
+
+-- there is an object of some type
+abbrev pub is_any_held : FlowObjects → Bool
+is_any_held objects =
+    not ((length objects.groups == 0) && (length objects.classifiers == 0) && (length objects.rules == 0))
+
+-- a capability is set only before there are objects
+abbrev pub is_set_late : FlowObjects → Command → Bool
+is_set_late objects (CapSet cap) = is_any_held objects
+is_set_late objects _ = false
+
+-- the device doesn't let its driver set the capability
+abbrev pub is_set_refused : CapsParts → Command → Bool
+is_set_refused caps (CapSet cap) = is_some (cap_fault caps cap)
+is_set_refused caps _ = false
+
+-- ---- an object by its type and id
 
 -- an object of the type is held under the id
-abbrev pub is_id_held : FlowObjects → ℕ → ObjData → Bool
-is_id_held objects id (Group _) = is_some (object_under objects.groups id)
-is_id_held objects id (Classifier _) = is_some (object_under objects.classifiers id)
-is_id_held objects id (Rule _) = is_some (object_under objects.rules id)
-is_id_held objects id Other = false
+abbrev pub is_held : FlowObjects → ℕ → ℕ → Bool
+is_held objects type_code id =
+    if type_code == group_type then is_some (object_under objects.groups id)
+    else if type_code == classifier_type then is_some (object_under objects.classifiers id)
+    else if type_code == rule_type then is_some (object_under objects.rules id)
+    else false
 
--- there are at least as many objects of the type as the driver's limit
-abbrev pub is_limit_reached : DriverParts → FlowObjects → ObjData → Bool
-is_limit_reached driver objects (Group _) = nat_le driver.limits.groups (length objects.groups)
-is_limit_reached driver objects (Classifier _) = nat_le driver.limits.classifiers (length objects.classifiers)
-is_limit_reached driver objects (Rule _) = nat_le driver.limits.rules (length objects.rules)
-is_limit_reached driver objects Other = false
+-- a rule names the group or the classifier with the id; no object names a rule
+abbrev pub is_named : FlowObjects → ℕ → ℕ → Bool
+is_named objects type_code id =
+    if type_code == group_type then names_group objects id
+    else if type_code == classifier_type then names_classifier objects id
+    else false
+
+-- a create of an object that is held
+abbrev pub is_id_taken : FlowObjects → Command → Bool
+is_id_taken objects (Create head object) = is_held objects (type_of object) head.id
+is_id_taken objects _ = false
+
+-- a create where there are at least as many objects of the type as the driver's limit
+abbrev pub is_limit_reached : DriverParts → FlowObjects → Command → Bool
+is_limit_reached driver objects (Create head (Group _)) = nat_le driver.limits.groups (length objects.groups)
+is_limit_reached driver objects (Create head (Classifier _)) =
+    nat_le driver.limits.classifiers (length objects.classifiers)
+is_limit_reached driver objects (Create head (Rule _)) = nat_le driver.limits.rules (length objects.rules)
+is_limit_reached driver objects _ = false
+
+-- a modify, a query or a destroy of an object that isn't held
+abbrev pub is_missing : FlowObjects → Command → Bool
+is_missing objects (Modify head object) = not (is_held objects (type_of object) head.id)
+is_missing objects (Query head) = not (is_held objects head.type_code head.id)
+is_missing objects (Destroy head) = not (is_held objects head.type_code head.id)
+is_missing objects _ = false
+
+-- a destroy of a group or a classifier, or a modify of a classifier, that a rule names
+abbrev pub is_needed : FlowObjects → Command → Bool
+is_needed objects (Modify head (Classifier list)) = names_classifier objects head.id
+is_needed objects (Destroy head) = is_named objects head.type_code head.id
+is_needed objects _ = false
+
+-- ---- the content of an object that a create or a modify gives
 
 -- the list has too many entries, or one that is no selector
 abbrev pub is_list_odd : RawList → Bool
@@ -118,7 +202,7 @@ abbrev pub selectors_in : RawList → List SelectorParts
 selectors_in (raw_list.Good list) = list.items
 selectors_in raw_list.Odd = []
 
--- Content of a classifier: a list of good shape, of selectors that the driver's capability has.
+-- content of a classifier: a list of good shape, of selectors that the driver's capability has.
 abbrev pub classifier_rows : DriverParts → RawList → List Row
 classifier_rows driver list =
     (is_list_odd list, invalid_field)
@@ -187,26 +271,27 @@ content_rows caps driver objects id (Classifier list) = classifier_rows driver l
 content_rows caps driver objects id (Rule rule) = rule_rows (rule_faults caps driver objects id rule)
 content_rows caps driver objects id Other = []
 
--- an object of a new id
-abbrev pub new_rows : DriverParts → FlowObjects → ℕ → ObjData → List Row
-new_rows driver objects id object =
-    (is_id_held objects id object, already_there) ∷ (is_limit_reached driver objects object, no_space) ∷ []
+-- the content of the object that a create or a modify gives
+abbrev pub given_rows : CapsParts → DriverParts → FlowObjects → Command → List Row
+given_rows caps driver objects (Create head object) = content_rows caps driver objects head.id object
+given_rows caps driver objects (Modify head object) = content_rows caps driver objects head.id object
+given_rows caps driver objects _ = []
 
 -- ---- the table
 
--- the rows on a create
-abbrev pub create_rows : CapsParts → DriverParts → FlowObjects → ObjHead → ObjData → List Row
-create_rows caps driver objects head object =
-    (has_flags head, invalid_field)
-    ∷ (is_type_unknown object, invalid_field)
-    ∷ []
-    ++ new_rows driver objects head.id object
-    ++ content_rows caps driver objects head.id object
-
--- the rows on a command that has its layout; other commands than creates are not read yet
+-- the rows on a command that is laid out
 abbrev pub command_rows : CapsParts → DriverParts → FlowObjects → Command → List Row
-command_rows caps driver objects (Create head object) = create_rows caps driver objects head object
-command_rows caps driver objects _ = (true, invalid_opcode) ∷ []
+command_rows caps driver objects command =
+    (has_flags command, invalid_field)
+    ∷ (is_unknown command, invalid_field)
+    ∷ (has_other_opcode command, invalid_field)
+    ∷ (is_set_late objects command, busy)
+    ∷ (is_set_refused caps command, invalid_field)
+    ∷ (is_id_taken objects command, already_there)
+    ∷ (is_limit_reached driver objects command, no_space)
+    ∷ (is_missing objects command, no_object)
+    ∷ (is_needed objects command, busy)
+    ∷ given_rows caps driver objects command
 
 -- the rows on the command that was read, if one was
 abbrev pub read_rows : DeviceState → Result Command WireErr → List Row
@@ -217,67 +302,3 @@ read_rows state (Err _) = []
 abbrev pub verdict_rows : DeviceState → List ℕ → List Row
 verdict_rows state bytes =
     layout_rows state.in_use (opcode_of bytes) (command_of bytes) ++ read_rows state (command_of bytes)
-
--- ---- what a command is answered with
-
--- the action of an action byte that is set
-abbrev pub action_of_byte : ℕ → RuleAction
-action_of_byte action = if action == drop_action then Drop else Queue
-
--- the rule that is laid out
-abbrev pub rule_parts : RawRule → RuleParts
-rule_parts rule = record {
-  group = rule.group;
-  classifier = rule.classifier;
-  priority = rule.priority;
-  action = action_of_byte rule.action;
-  vq = rule.vq;
-  key = key_bytes rule.key;
-}
-
--- the put of an object under an id
-abbrev pub put_of : ℕ → ObjData → Option Change
-put_of id (Group priority) = Some (PutGroup id priority)
-put_of id (Classifier list) = Some (PutClassifier id (selectors_in list))
-put_of id (Rule rule) = Some (PutRule id (rule_parts rule))
-put_of id Other = None
-
--- the change that a command makes where no row holds
-abbrev pub change_of : Command → Option Change
-change_of (Create head object) = put_of head.id object
-change_of _ = None
-
--- the change as an effect
-abbrev pub effect_with : Option Change → Effect
-effect_with None = effects.Nothing
-effect_with (Some change) = effects.Change change
-
--- a reply that has no result
-abbrev pub bare_reply : ℕ → ℕ → Reply
-bare_reply status qualifier = record { status = status; qualifier = qualifier; result = record { items = [] } }
-
--- a refusal has no result and no effect
-abbrev pub refused : Verdict → Answer
-refused verdict = record { reply = bare_reply verdict.status verdict.qualifier; effect = effects.Nothing }
-
--- a command is obeyed: status and qualifier are 0, and there is no result
-abbrev pub obeyed : Effect → Answer
-obeyed effect = record { reply = bare_reply 0 0; effect = effect }
-
--- the answer where no row holds
-abbrev pub accepted : Result Command WireErr → Answer
-accepted (Ok command) = obeyed (effect_with (change_of command))
-accepted (Err _) = obeyed effects.Nothing
-
--- the verdict, or else another answer
-abbrev pub refused_or : Option Verdict → Answer → Answer
-refused_or (Some verdict) answer = refused verdict
-refused_or None answer = answer
-
--- the answer to bytes, whatever room there is for it
-unfoldable pub answer_of : DeviceState → List ℕ → Answer
-answer_of state bytes = refused_or (first_verdict (verdict_rows state bytes)) (accepted (command_of bytes))
-
--- the verdict on bytes: no answer where the room holds none
-unfoldable pub verdict_of : DeviceState → List ℕ → ℕ → Option Answer
-verdict_of state bytes room = if nat_lt room 8 then None else Some (answer_of state bytes)

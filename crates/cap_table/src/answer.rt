@@ -1,8 +1,9 @@
 //! What a command is answered with, and what it changes.
 
 ghost use Rattle.std.specs.Prelude.{◌≡◌};
-ghost use Rattle.cap_table.specs.Verdicts.{bare_reply, refused, obeyed};
+ghost use Rattle.cap_table.specs.Answers.{bare_reply, refused, obeyed};
 
+use crate::capabilities::DriverCaps;
 use crate::verdict::Verdict;
 use admin_wire::Reply;
 use arrayvec::ArrayVec;
@@ -12,6 +13,10 @@ use ff_headers::Change;
 #[derive(Debug, Drop)]
 pub enum Effect {
     Nothing,
+    /// The opcodes in use are from now on those of the bitmap.
+    Use(u64),
+    /// What the driver set is from now on this.
+    Caps(DriverCaps),
     /// One change to the groups, classifiers and rules.
     Change(Change),
 }
@@ -34,12 +39,16 @@ impl Answer {
         }
     }
 
-    /// The command is obeyed: status and qualifier are 0, and there is no result.
-    pub fn obeyed(effect: Effect) -> Answer
-        ensures { result ≡ obeyed effect }
+    /// The command is obeyed: status and qualifier are 0, and the result is what it is told.
+    pub fn obeyed(told: ArrayVec<u8, 264>, effect: Effect) -> Answer
+        ensures { result ≡ obeyed told.items effect }
     {
         Answer {
-            reply: bare_reply(0, 0),
+            reply: Reply {
+                status: 0,
+                qualifier: 0,
+                result: told,
+            },
             effect,
         }
     }

@@ -1,6 +1,8 @@
 //! What the device tells of its capabilities.
 
 ghost use Rattle.std.specs.Prelude.{◌≡◌, ◌≢◌, ◌+◌, ◌≤◌, ◌↔◌, ◌++◌, length, None};
+ghost use Rattle.std.specs.List.{flat_map};
+ghost use Rattle.std.specs.Int.{w64, to_le_bytes};
 ghost use Rattle.admin_wire.specs.Codes.{limits_cap, selectors_cap, actions_cap, most_selectors, most_result_bytes};
 ghost use Rattle.admin_wire.specs.Fields.{written};
 ghost use Rattle.cap_table.specs.CapResults.{list_words, limits_result, offered_fields, selectors_result, actions_result, cap_result};
@@ -24,6 +26,18 @@ pub fn list_words() -> [u64; 33]
     // 0x800, 0x801 and 0x802
     words[32] = 0b111;
     words
+}
+
+/// The bytes of that bitmap.
+pub fn list_bytes() -> ArrayVec<u8, 264>
+    ensures { result.items ≡ flat_map (to_le_bytes w64) list_words }
+{
+    let words = list_words();
+    let mut bytes = CapBytes::new();
+    for word in &words {
+        bytes.try_extend_from_slice(&word.to_le_bytes()).unwrap();
+    }
+    bytes
 }
 
 /// The bytes of the device's capability with this id. There are none exactly where the id is that of none of the three.

@@ -172,6 +172,18 @@ impl DriverCaps {
         ))
     }
 
+    /// An equal one. It takes no memory.
+    pub fn copy(&self) -> DriverCaps
+        ensures { result ≡ self.now }
+    {
+        DriverCaps {
+            limits: self.limits,
+            selectors: copied(&self.selectors),
+            drop: self.drop,
+            queue: self.queue,
+        }
+    }
+
     /// Replaces the capability by the wanted one, and keeps the others.
     #[tactic(auto, using(crate::proofs::SettingLemmas::selectors_that_rise))]
     pub fn set(&mut self, wanted: &CapData)

@@ -6,20 +6,22 @@
 //!
 //! It promises that [`DeviceCaps`] and [`DriverCaps`] hold what they were given, with a device's ranges and selectors
 //! of rising types in every value, and that [`is_supported`], `DriverCaps::{has_action, has_selectors}`,
-//! [`has_opcode`] and [`is_opcode_in`] say what a capability, the device and a bitmap of opcodes have. [`may_set`]
+//! [`has_opcode`], [`has_other_opcode`] and [`is_opcode_in`] say what a capability, the device and a bitmap of opcodes
+//! have; [`opcodes_used`] keeps the two opcodes that are always in use. [`may_set`]
 //! refuses a capability that the driver wants to set exactly where it has a fault, with the first one, and
-//! `DriverCaps::set` replaces that capability alone; [`list_words`] and [`cap_result`] give the bytes in which the
-//! device tells of its capabilities.
+//! `DriverCaps::set` replaces that capability alone; [`list_words`], [`list_bytes`] and [`cap_result`] give what the
+//! device tells of its capabilities, and [`opcode_bytes`] of its opcodes.
 //!
 //! The machine is defined here, below all crates that carry it out, since it speaks of capabilities and commands
 //! alone: its state, the rows of the verdict table, one step, and runs. That runs keep states valid is proved over
 //! these definitions; the device that carries them out states it on its calls.
 //!
 //! Definitions, in specs/: `Caps` (capabilities), `CapSets` (why one isn't set, and what a set leaves), `CapResults`
-//! (what the device tells of them), `States` (state, start, validity), `Rows` and `Verdicts` (the verdict on a
-//! command), `Steps` (reply, next state, runs). The lemmas on them for the crates above stand in proofs/:
-//! `SettingLemmas` (what isn't refused can be set, and stays within the device's, which `laws` says), `RowLemmas` (no
-//! row holds), `AcceptedCreates` (an accepted command's change is sound), `EveryAnswer` and `ValidSteps`.
+//! (what the device tells of them), `States` (state, start, validity), `Statuses` (the refusals), `Verdicts` (the rows
+//! of the verdict table), `Answers` (what a command is answered where no row holds), `Steps` (reply, next state,
+//! runs). The lemmas on them for the crates above stand in proofs/: `SettingLemmas` (what isn't refused can be set, and
+//! stays within the device's, which `laws` says), `RowLemmas` (no row holds), `AcceptedChanges` (an accepted command's
+//! change is sound), `EveryAnswer` and `ValidSteps`.
 #![tactic(auto)]
 
 mod answer;
@@ -33,9 +35,9 @@ mod support;
 mod verdict;
 
 pub use answer::{Answer, Effect};
-pub use cap_results::{cap_result, list_words};
+pub use cap_results::{cap_result, list_bytes, list_words};
 pub use capabilities::{DeviceCaps, DriverCaps};
-pub use opcodes::{has_opcode, is_opcode_in};
+pub use opcodes::{has_opcode, has_other_opcode, is_opcode_in, opcode_bytes, opcodes_used};
 pub use setting::{CapErr, may_set};
 pub use start::Start;
 pub use support::is_supported;

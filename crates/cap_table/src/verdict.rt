@@ -1,8 +1,7 @@
 //! Why a command is refused.
 
 ghost use Rattle.std.specs.Prelude.{◌≡◌, None, Some, Err};
-ghost use Rattle.cap_table.specs.Rows.{first_verdict};
-ghost use Rattle.cap_table.specs.Verdicts.{layout_rows};
+ghost use Rattle.cap_table.specs.Verdicts.{first_verdict, layout_rows};
 
 use admin_wire::WireErr;
 
@@ -54,6 +53,11 @@ impl Verdict {
     pub const NO_OBJECT: Verdict = Verdict {
         status: 6,
         qualifier: 6,
+    };
+    /// EBUSY: objects that are held stand against it.
+    pub const BUSY: Verdict = Verdict {
+        status: 16,
+        qualifier: 1,
     };
     /// ENOMEM: the change of the command found no memory.
     pub const NO_MEMORY: Verdict = Verdict {

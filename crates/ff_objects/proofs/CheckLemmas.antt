@@ -1,22 +1,28 @@
 -- What the check of a command needs: its answer is that of the rows, and what it puts is sound.
-use Rattle.std.proofs.Common.{◌≡◌, ◌≢◌, List, cond, true, Option, Some, None, Result, Ok, Err, refl, sym, ap, ◌∙◌, subst}
-use Rattle.std.specs.Prelude.{IfOk, IfErr, is_some}
+use Rattle.std.proofs.Common.{◌≡◌, ◌≢◌, List, [], ◌∷◌, length, cond, eqb, not, true, false, Option, Some, None, Result, Ok, Err, refl, sym, ap, ◌∙◌, subst}
+use Rattle.std.specs.Prelude.{IfOk, IfErr, is_some, nat_le}
 use Rattle.std.specs.Result.{result_err, result_ok}
 use Rattle.std.specs.Option.{option_map_or}
 use Rattle.ff_headers.specs.SelectorParts.{SelectorParts}
 use Rattle.ff_headers.specs.Shapes.{shape_fault, shaped}
-use Rattle.ff_headers.specs.Objects.{FlowObjects}
+use Rattle.ff_headers.specs.Objects.{FlowObjects, object_under}
 use Rattle.ff_headers.specs.Changes.{is_sound}
 use Rattle.ff_headers.specs.declared.limits.Limits.{Limits}
 use Rattle.ff_headers.specs.declared.change.Change.{Change}
 use Rattle.ff_headers.specs.declared.selectors.ShapeErr.{ShapeErr}
 use Rattle.admin_wire.specs.declared.command.Command.{Command}
+use Rattle.admin_wire.specs.declared.command.Command.TheVariants.{Create, Modify}
+use Rattle.admin_wire.specs.declared.command.ObjData.TheVariants.{Rule}
+use Rattle.admin_wire.specs.declared.command.ObjHead.{ObjHead}
+use Rattle.admin_wire.specs.declared.command.RawRule.{RawRule}
 use Rattle.cap_table.specs.Caps.{CapsParts, DriverParts, AtMost}
-use Rattle.cap_table.specs.Rows.{Row, first_verdict, ok_unless, unless_refused}
-use Rattle.cap_table.specs.Verdicts.{command_rows, change_of}
+use Rattle.cap_table.specs.Statuses.{already_there, no_space, no_object}
+use Rattle.cap_table.specs.Verdicts.{Row, first_verdict, ok_unless, unless_refused, command_rows, rule_rows, rule_faults}
+use Rattle.cap_table.specs.Answers.{change_of}
 use Rattle.cap_table.specs.declared.verdict.Verdict.{Verdict}
-use Rattle.cap_table.proofs.AcceptedCreates.{accepted_change}
+use Rattle.cap_table.proofs.AcceptedChanges.{accepted_change}
 use Rattle.cap_table.proofs.EveryAnswer.{command_refused}
+use Rattle.cap_table.proofs.RowLemmas.{none_holds}
 
 module _ {X : Type 0} (rows : List Row) (asked : X) (result : Result X Verdict) (is : result ≡ unless_refused rows asked) where
   -- the answer is refused as the rows say
@@ -40,6 +46,24 @@ shaped_or_none list = by_fault (shape_fault list) where
   by_fault : (fault : Option ShapeErr) → result_ok (option_map_or (λ f. Err f) fault (Ok list)) ≡ cond (is_some fault) None (Some list)
   by_fault None = refl
   by_fault (Some fault) = refl
+
+module _ (caps : CapsParts) (driver : DriverParts) (objects : FlowObjects) (head : ObjHead) (rule : RawRule) (no_flags : head.flags ≡ 0) where
+  flagless : not (eqb head.flags 0) ≡ false
+  flagless = ap (λ n. not (eqb n 0)) no_flags
+
+  -- the rows of a create of a rule that may be new are those of its content
+  pub new_rule : first_verdict ((is_some (object_under objects.rules head.id), already_there) ∷ (nat_le driver.limits.rules (length objects.rules), no_space) ∷ []) ≡ None
+      → first_verdict (rule_rows (rule_faults caps driver objects head.id rule)) ≡ first_verdict (command_rows caps driver objects (Create head (Rule rule)))
+  new_rule new =
+      let none = none_holds ((is_some (object_under objects.rules head.id), already_there) ∷ (nat_le driver.limits.rules (length objects.rules), no_space) ∷ []) new in
+      rw (flagless, none.0, none.1.0) refl
+
+  -- so are those of a modify of a rule that is held
+  pub held_rule : first_verdict ((not (is_some (object_under objects.rules head.id)), no_object) ∷ []) ≡ None
+      → first_verdict (rule_rows (rule_faults caps driver objects head.id rule)) ≡ first_verdict (command_rows caps driver objects (Modify head (Rule rule)))
+  held_rule held =
+      let none = none_holds ((not (is_some (object_under objects.rules head.id)), no_object) ∷ []) held in
+      rw (flagless, none.0) refl
 
 module _ (caps : CapsParts) (driver : DriverParts) (objects : FlowObjects) (command : Command) (result : Result Change Verdict) (refused : result_err result ≡ first_verdict (command_rows caps driver objects command)) where
   -- a change that isn't refused is sound

@@ -13,7 +13,7 @@ use std::marker::Model;
 /// classifier are held, its key has the classifier's size, and no two groups have one priority.
 #[derive(Drop)]
 pub struct Objects {
-    store: Store,
+    pub(crate) store: Store,
 }
 
 impl Model for Objects {
@@ -54,12 +54,5 @@ impl Objects {
         ensures well_formed { IsWellFormed self.now.limits self.now.objects }
     {
         self.store.limits()
-    }
-
-    /// The objects, as they are kept.
-    pub(crate) fn store(&self) -> &Store
-        ensures { result.now ≡ self.now }
-    {
-        &self.store
     }
 }

@@ -1,9 +1,9 @@
 //! The content of a rule.
 
 ghost use Rattle.std.specs.Prelude.{◌≡◌};
-ghost use Rattle.cap_table.specs.Rows.{unless_refused};
+ghost use Rattle.cap_table.specs.Answers.{rule_parts, action_of_byte};
 ghost use Rattle.cap_table.specs.States.{is_receive_queue};
-ghost use Rattle.cap_table.specs.Verdicts.{rule_faults, rule_rows, rule_parts, action_of_byte};
+ghost use Rattle.cap_table.specs.Verdicts.{unless_refused, rule_faults, rule_rows};
 
 use admin_wire::{RawKey, RawRule, VIRTIO_NET_FF_ACTION_DROP, VIRTIO_NET_FF_ACTION_RX_VQ};
 use cap_table::{DeviceCaps, DriverCaps, Verdict};
@@ -75,7 +75,7 @@ fn action_of_byte(action: u8) -> RuleAction
 }
 
 /// An equal key. It takes no memory.
-fn copied(key: &Key) -> Key
+pub(crate) fn copied(key: &Key) -> Key
     ensures { result.items ≡ key.now.items }
 {
     let mut copy = Key::new();

@@ -97,14 +97,14 @@ impl Store {
     }
 
     /// Whether some rule names the group.
-    fn names_group(&self, id: u32) -> bool
+    pub fn names_group(&self, id: u32) -> bool
         ensures { result ≡ names_group self.now.objects id }
     {
         self.rules_in_group(id) != 0
     }
 
     /// Whether some rule names the classifier.
-    fn names_classifier(&self, id: u32) -> bool
+    pub fn names_classifier(&self, id: u32) -> bool
         ensures { result ≡ names_classifier self.now.objects id }
     {
         self.rules_with_classifier(id) != 0

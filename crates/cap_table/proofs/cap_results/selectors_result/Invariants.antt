@@ -1,5 +1,5 @@
 -- The selectors so far are written, each in at most 48 bytes.
-use Rattle.std.proofs.Common.{◌≡◌, ◌+◌, ◌*◌, ◌≤◌, ◌∷◌, ◌++◌, length, take, flat_map}
+use Rattle.std.proofs.Common.{◌≡◌, ◌+◌, ◌*◌, ◌≤◌, ◌∷◌, length, take, flat_map}
 use Rattle.std.specs.Int.{w8}
 use Rattle.admin_wire.specs.Fields.{number, reserved, written}
 use Rattle.cap_table.specs.CapResults.{offered_fields}

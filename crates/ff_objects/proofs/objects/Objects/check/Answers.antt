@@ -1,4 +1,4 @@
-use Rattle.std.proofs.Common.{◌≡◌, subst, true}
+use Rattle.std.proofs.Common.{◌≡◌, ◌∙◌, ap, subst, true}
 use Rattle.std.specs.Prelude.{IfOk}
 use Rattle.ff_headers.specs.Changes.{is_sound}
 use Rattle.ff_store.specs.LimitedObjects.{LimitedObjects}
@@ -7,6 +7,7 @@ use Rattle.ff_objects.proofs.objects.Objects.check.Goals as goal
 
 pub returns-clause-sound : goal.returns-clause-sound
 returns-clause-sound c =
-    let same : c.store.result.now.limits ≡ c.args.device.now.limits = cc in
-    let sound = check_sound c.args.device.now c.args.driver.now c.store.result.now.objects c.args.command.now _ c.change_of.ensures.refused c.store.result.now.limits same c.requires.at_most c.change_of.ensures.change in
-    subst (λ (o : LimitedObjects). IfOk c.change_of.result (λ change. is_sound o.limits o.objects change ≡ true)) c.store.ensures sound
+    let inside = c.self.inside.store in
+    let same : inside.limits ≡ c.args.device.now.limits = ap (λ (o : LimitedObjects). o.limits) c.self.view_is ∙ c.requires.limits in
+    subst (λ (o : LimitedObjects). IfOk c.change_of.result (λ change. is_sound o.limits o.objects change ≡ true)) c.self.view_is
+    (check_sound c.args.device.now c.args.driver.now inside.objects c.args.command.now _ c.change_of.ensures.refused inside.limits same c.requires.at_most c.change_of.ensures.change)

@@ -1,6 +1,5 @@
--- Rows of conditions, each with the verdict that is given where it is the first that holds. Which refusal has which
--- status and qualifier is this project's own; the statuses are errno's.
-use Rattle.std.specs.Prelude.{◌≡◌, Bool, false, List, [], ◌∷◌, Option, Some, None, Result, Ok, Err, if◌then◌else◌}
+-- The statuses of refusals, each with its qualifier. Which refusal has which is this project's own; the statuses are
+-- errno's.
 use Rattle.cap_table.specs.declared.verdict.Verdict.{Verdict}
 
 -- EINVAL: the command's bytes are too few
@@ -35,24 +34,10 @@ no_space = record { status = 28; qualifier = 6 }
 abbrev pub no_object : Verdict
 no_object = record { status = 6; qualifier = 6 }
 
+-- EBUSY: objects that are held stand against it
+abbrev pub busy : Verdict
+busy = record { status = 16; qualifier = 1 }
+
 -- ENOMEM: no verdict of the table; a device whose change finds no memory answers it
 abbrev pub no_memory : Verdict
 no_memory = record { status = 12; qualifier = 6 }
-
--- a condition, and the verdict where it holds
-abbrev pub Row : Type 0
-Row = Bool × Verdict
-
--- the verdict of the first row that holds
-abbrev pub first_verdict : List Row → Option Verdict
-first_verdict [] = None
-first_verdict (row ∷ rows) = if row.0 then Some row.1 else first_verdict rows
-
--- what is asked for, unless there is a verdict against it
-abbrev pub ok_unless : {X : Type 0} → Option Verdict → X → Result X Verdict
-ok_unless None asked = Ok asked
-ok_unless (Some verdict) asked = Err verdict
-
--- what is asked for, unless a row holds
-abbrev pub unless_refused : {X : Type 0} → List Row → X → Result X Verdict
-unless_refused rows asked = ok_unless (first_verdict rows) asked
