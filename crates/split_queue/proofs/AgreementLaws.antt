@@ -1,12 +1,12 @@
 -- What keeps the two ends of a queue in agreement.
-use Rattle.std.proofs.Common.{◌≡◌, ℕ, ◌+◌, ◌-◌, ◌^◌, ◌<◌, ◌≤◌, ◌⊎◌, inl, inr, List, length, reverse, get_or, Some, Ok, refl, sym, ap, ◌∙◌, subst, arith}
+use Rattle.std.proofs.Common.{◌≡◌, ℕ, ◌+◌, ◌-◌, ◌^◌, ◌<◌, ◌≤◌, ◌⊎◌, inl, inr, List, length, reverse, get_or, Some, None, Ok, refl, sym, ap, ◌∙◌, subst, arith}
 use Rattle.std.specs.Int.{from_le_bytes, w16}
 use Rattle.std.specs.List.{All}
 use Rattle.std.proofs.lemmas.List.{length-reverse, get_or-reverse}
 use Rattle.byte_numbers.proofs.NumberLaws.{le16_at-same}
 use Rattle.guest_mem.specs.Memory.{bytes_at, ChangesOnly}
 use Rattle.guest_mem.proofs.Bytes.{get_or-bytes_at}
-use Rattle.guest_mem.proofs.Changes.{changes-wider}
+use Rattle.guest_mem.proofs.Changes.{changes-wider, changes-then}
 use Rattle.split_queue.specs.Agreement.{Agree, IsInQueue, IsClearOf, KeepsQueue, Round, IsRound, after_round}
 use Rattle.split_queue.specs.Chains.{IsInPieces}
 use Rattle.byte_numbers.specs.Numbers.{le16_at}
@@ -95,7 +95,7 @@ module _ (driver : DriverEndState) (device : DeviceEndState) (end : IsValidDrive
   abbrev post_memory : List ℕ
   post_memory = with_post before driver pieces readable
 
-  table-changes : ChangesOnly before table_memory (IsInArea (table_area place))
+  pub table-changes : ChangesOnly before table_memory (IsInArea (table_area place))
   table-changes =
       let below = subst (λ size. All (λ n. n < size) numbers) end.valid.same_size (free-below driver.pool.owners driver.pool.free (length pieces) end.free_list) in
       with_descriptors-changes place numbers pieces readable before (omega (arith, end.valid.placed.table, agree.driver_memory)) below
@@ -103,8 +103,11 @@ module _ (driver : DriverEndState) (device : DeviceEndState) (end : IsValidDrive
   available-inside : place.avail + available_bytes place.size ≤ length table_memory
   available-inside = omega (arith, end.valid.placed.available, agree.driver_memory, table-changes.size)
 
-  slot-changes : ChangesOnly table_memory post_memory (IsInArea (available_area place))
+  pub slot-changes : ChangesOnly table_memory post_memory (IsInArea (available_area place))
   slot-changes = with_available_entry-changes table_memory place driver.next (first_free driver.pool.free) end.valid.placed.some available-inside
+
+  pub post-changes : ChangesOnly before post_memory (IsInQueue place)
+  post-changes = changes-then before table_memory post_memory (IsInArea (table_area place)) (IsInArea (available_area place)) (IsInQueue place) (λ addr inside. inl inside) (λ addr inside. inr (inl inside)) table-changes slot-changes
 
   pub with_post-agree : Agree (after_post driver (length pieces)) (after_pop device) post_memory
   with_post-agree = record {
@@ -160,20 +163,23 @@ module _ (driver : DriverEndState) (device : DeviceEndState) (round : Round) (en
   abbrev push_memory_of : List ℕ
   push_memory_of = with_used_entry round.at_push driver.place driver.used head round.len
 
-  at_push-agree : Agree driver_after_post (after_pop device) round.at_push
+  pub at_push-agree : Agree driver_after_post (after_pop device) round.at_push
   at_push-agree = agree-kept driver_after_post (after_pop device) (with_post round.at_post driver round.pieces round.readable) round.at_push (with_post-agree driver device end round.at_post round.pieces round.readable is_round.agree) is_round.keeps
 
-  enough_free : (length round.pieces ≤ length driver.pool.free) × (head ≡ first_free driver.pool.free)
+  pub enough_free : (length round.pieces ≤ length driver.pool.free) × (head ≡ first_free driver.pool.free)
   enough_free = post-accepted driver (length round.pieces) head is_round.posts
 
   some_free : 0 < length driver.pool.free
   some_free = omega (arith, is_round.some, enough_free.0)
 
-  -- the head is one of the queue's descriptors
-  head-below : head < length driver.pool.owners
-  head-below =
+  -- the head is one of the queue's descriptors, and was free
+  pub head-was_free : (head < length driver.pool.owners) × (owner_of driver.pool.owners head ≡ None)
+  head-was_free =
       let backwards = get_or-reverse driver.pool.free 0 0 some_free in
-      rw (enough_free.1, backwards) ((free_at driver.pool.owners driver.pool.free (length driver.pool.free - 1 - 0) 0 (omega (arith, some_free)) end.free_list).0)
+      rw (enough_free.1, backwards) (free_at driver.pool.owners driver.pool.free (length driver.pool.free - 1 - 0) 0 (omega (arith, some_free)) end.free_list)
+
+  head-below : head < length driver.pool.owners
+  head-below = head-was_free.0
 
   -- it is out, in the chain that it heads
   head-is-owned : owner_of driver_after_post.pool.owners head ≡ Some head
@@ -181,10 +187,10 @@ module _ (driver : DriverEndState) (device : DeviceEndState) (round : Round) (en
       let below = rw enough_free.1 at head-below in
       rw enough_free.1 (first-is-owned driver.pool.owners (reverse driver.pool.free) (length round.pieces) is_round.some (rw length-reverse some_free) below)
 
-  at_take-is : round.at_take ≡ push_memory_of
+  pub at_take-is : round.at_take ≡ push_memory_of
   at_take-is = is_round.gives_back ∙ rw (is_round.agree.place, is_round.agree.used_next) refl
 
-  element : HasElement push_memory_of driver.place driver.used head round.len
+  pub element : HasElement push_memory_of driver.place driver.used head round.len
   element = push-element driver_after_post (after_pop device) end.valid.placed round.at_push at_push-agree head round.len (omega (arith, head-below, end.few)) is_round.short
 
   pub round-takes : take_answer round.at_take driver.place (pool_after_post driver.pool (length round.pieces)) driver.used ≡ Ok (Some (head, round.len))
@@ -193,5 +199,6 @@ module _ (driver : DriverEndState) (device : DeviceEndState) (round : Round) (en
   pub round-agrees : Agree (after_round driver round) (after_push (after_pop device)) round.at_take
   round-agrees = rw at_take-is (push-agree driver_after_post (after_pop device) end.valid.placed round.at_push at_push-agree head round.len element)
 
-  pub round-frees : length driver.pool.free ≤ length (after_round driver round).pool.free
-  round-frees = after_release-free driver.pool (length round.pieces) head end.free_list enough_free.0 enough_free.1
+  pub round-frees : length (after_round driver round).pool.free ≡ length driver.pool.free
+  round-frees =
+      after_release-free driver.pool (length round.pieces) head end.heads head-was_free.1 end.free_list enough_free.0 enough_free.1

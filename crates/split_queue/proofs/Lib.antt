@@ -17,3 +17,8 @@ pub mod ReadLaws
 pub mod RingLaws
 pub mod ScatterSteps
 pub mod WalkLaws
+pub mod RisingLists
+pub mod LinkLaws
+pub mod FreeingLaws
+pub mod ReplyLaws
+pub mod AnswerLaws

@@ -1,5 +1,5 @@
 -- One byte of a cleared area, and one descriptor of a posted chain.
-use Rattle.std.proofs.Common.{◌≡◌, ℕ, suc, ◌+◌, ◌-◌, ◌^◌, ◌<◌, inl, inr, List, [], ◌∷◌, ◌++◌, length, length-append, length-drop, length-set, take, drop, reverse, get_or, Option, Some, None, add-one, refl, sym, ap, ◌∙◌, arith}
+use Rattle.std.proofs.Common.{◌≡◌, ℕ, suc, ◌+◌, ◌-◌, ◌^◌, ◌<◌, ◌⊎◌, inl, inr, List, [], ◌∷◌, ◌++◌, length, length-append, length-drop, length-set, take, drop, reverse, get_or, Option, Some, None, add-one, refl, sym, ap, ◌∙◌, arith}
 use Rattle.std.proofs.Math.ListN.{set}
 use Rattle.std.proofs.Math.Seq.{drop-cons}
 use Rattle.std.proofs.lemmas.Bool.{cases_lt, cases_eq}
@@ -11,7 +11,8 @@ use Rattle.guest_mem.proofs.Changes.{changes-none, changes-then}
 use Rattle.split_queue.specs.Descriptors.{with_descriptor}
 use Rattle.split_queue.specs.DriverEnds.{DriverEndState, IsInFreeDescriptor, IsInPost, chain_numbers, piece_descriptor, with_descriptors, owners_with}
 use Rattle.split_queue.specs.QueuePlaces.{descriptor_addr, descriptor_bytes, used_bytes}
-use Rattle.split_queue.specs.Pools.{PoolState, owner_of}
+use Rattle.split_queue.specs.Pools.{PoolState, owner_of, first_free}
+use Rattle.split_queue.proofs.LinkLaws.{claim-known, head-out}
 use Rattle.split_queue.specs.Rings.{ClearsArea, ClearsRings, IsInRings, IsInAvailableEntry}
 use Rattle.split_queue.specs.Setup.{IsInArea, available_area, used_area}
 use Rattle.split_queue.specs.declared.queue_place.Place.{Place}
@@ -62,13 +63,14 @@ pub record IsPosting (place : Place) (head : ℕ) (before : List ℕ) (pieces : 
   pub free : now.free ≡ take (length pool.free - i) pool.free
   pub left : length now.free + i ≡ length pool.free
   pub same_size : length now.owners ≡ length pool.owners
+  pub known : (first_free now.free ≡ head) ⊎ (owner_of now.owners head ≡ Some head)
   pub was_free : (number : ℕ) → owner_of now.owners number ≡ None → owner_of pool.owners number ≡ None
   pub only : ChangesOnly before mem (IsInFreeDescriptor place pool.owners)
   pub lens : All (λ p. p.len < 2 ^ 32) (take i pieces)
 
 module _ (place : Place) (head : ℕ) (before : List ℕ) (pieces : List Piece) (readable : ℕ) (pool : PoolState) where
-  pub posting-none : IsPosting place head before pieces readable pool 0 before pool
-  posting-none =
+  pub posting-none : head ≡ first_free pool.free → IsPosting place head before pieces readable pool 0 before pool
+  posting-none first =
       let turns : length pieces - 0 ≡ length pieces = omega arith in
       let ahead : readable - 0 ≡ readable = omega arith in
       let all : length pool.free - 0 ≡ length pool.free = omega arith in
@@ -78,14 +80,15 @@ module _ (place : Place) (head : ℕ) (before : List ℕ) (pieces : List Piece) 
         free = rw all (sym (take_all (length pool.free) pool.free (omega arith)));
         left = omega arith;
         same_size = refl;
+        known = inl (sym first);
         was_free = λ number none. none;
         only = changes-none before (IsInFreeDescriptor place pool.owners);
         lens = All-nil (λ (p : Piece). p.len < 2 ^ 32);
       }
 
   module _ (mem after : List ℕ) (now later : PoolState) (i number : ℕ) (d : Piece) (below : i < length pieces) (so_far : IsPosting place head before pieces readable pool i mem now) where
-    pub posting-more : now.free ≡ later.free ++ number ∷ [] → later.owners ≡ set now.owners number (Some head) → owner_of now.owners number ≡ None → number < place.size → after ≡ with_descriptor mem place number (piece_descriptor (get_or pieces i d) (readable - i) (drop (i + 1) pieces) (chain_numbers (length (drop (i + 1) pieces)) later.free)) → ChangesOnly mem after (IsInRange (descriptor_addr place number) descriptor_bytes) → (get_or pieces i d).len < 2 ^ 32 → IsPosting place head before pieces readable pool (i + 1) after later
-    posting-more claimed owned none within is_after changes small =
+    pub posting-more : now.free ≡ later.free ++ number ∷ [] → later.owners ≡ set now.owners number (Some head) → owner_of now.owners number ≡ None → number < length now.owners → number < place.size → after ≡ with_descriptor mem place number (piece_descriptor (get_or pieces i d) (readable - i) (drop (i + 1) pieces) (chain_numbers (length (drop (i + 1) pieces)) later.free)) → ChangesOnly mem after (IsInRange (descriptor_addr place number) descriptor_bytes) → (get_or pieces i d).len < 2 ^ 32 → IsPosting place head before pieces readable pool (i + 1) after later
+    posting-more claimed owned none inside within is_after changes small =
         let len_later : length (drop (i + 1) pieces) ≡ length pieces - (i + 1) = length-drop (i + 1) pieces in
         let turns : length pieces - i ≡ suc (length (drop (i + 1) pieces)) = omega (arith, len_later) in
         let backwards : reverse now.free ≡ number ∷ reverse later.free = ap reverse claimed ∙ reverse-append later.free (number ∷ []) in
@@ -103,6 +106,7 @@ module _ (place : Place) (head : ℕ) (before : List ℕ) (pieces : List Piece) 
               ∙ ap (take (length later.free)) so_far.free ∙ take-take (length later.free) (length pool.free - i) pool.free (omega (arith, short)) ∙ ap (λ k. take k pool.free) short;
           left = omega (arith, so_far.left);
           same_size = ap length owned ∙ length-set now.owners number (Some head) ∙ so_far.same_size;
+          known = inr (ap (λ (os : List (Option ℕ)). owner_of os head) owned ∙ head-out now.owners number head inside (claim-known now.owners now.free later.free number head claimed so_far.known));
           was_free = λ n free. elim (cases_eq n number) [
             | inl same ↦ rw same (so_far.was_free number none)
             | inr apart ↦ so_far.was_free n (sym (get_or-set_other now.owners number n (Some head) None apart) ∙ sym (ap (λ (os : List (Option ℕ)). owner_of os n) owned) ∙ free)

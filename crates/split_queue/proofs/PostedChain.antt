@@ -1,15 +1,14 @@
 -- The device's end gets of a posted chain what was posted.
-use Rattle.std.proofs.Common.{◌≡◌, ◌≢◌, ℕ, ◌+◌, ◌-◌, ◌^◌, ◌<◌, ◌≤◌, inl, inr, List, [], ◌∷◌, ◌++◌, length, take, drop, reverse, get_or, Option, Some, Ok, refl, sym, ap, ◌∙◌, subst, arith}
-use Rattle.std.specs.List.{All, flat_map}
+use Rattle.std.proofs.Common.{◌≡◌, ◌≢◌, ℕ, ◌-◌, ◌^◌, ◌<◌, ◌≤◌, inl, inr, List, [], ◌∷◌, length, take, drop, reverse, get_or, Option, Some, Ok, refl, sym, ap, ◌∙◌, subst, arith}
+use Rattle.std.specs.List.{All}
 use Rattle.std.proofs.lemmas.Bool.{cond-false, ne_eqb, le-ltb, lt-leb}
 use Rattle.std.proofs.lemmas.List.{get_or-take}
-use Rattle.std.proofs.lemmas.List.Elements.{All-head, All-tail, All-take}
+use Rattle.std.proofs.lemmas.List.Elements.{All-take}
 use Rattle.byte_numbers.proofs.NumberLaws.{HaveSame}
-use Rattle.guest_mem.specs.Memory.{bytes_at, ChangesOnly}
-use Rattle.guest_mem.proofs.Bytes.{bytes_at-same}
+use Rattle.guest_mem.specs.Memory.{ChangesOnly}
 use Rattle.guest_mem.proofs.Changes.{changes-then}
 use Rattle.split_queue.specs.Agreement.{Agree, IsInQueue, IsClearOf, ArePostable, chain_of_pieces}
-use Rattle.split_queue.specs.Chains.{most_descriptors, PieceLiesIn}
+use Rattle.split_queue.specs.Chains.{most_descriptors, bytes_in, PieceLiesIn}
 use Rattle.split_queue.specs.DeviceEnds.{DeviceEndState, as_pop_answer, pop_answer}
 use Rattle.split_queue.specs.DriverEnds.{DriverEndState, chain_numbers, with_descriptors, with_post}
 use Rattle.split_queue.specs.QueuePlaces.{table_bytes}
@@ -20,21 +19,13 @@ use Rattle.split_queue.specs.Walks.{bare_chain, chain_of}
 use Rattle.split_queue.proofs.PoolLaws.{all_weaker}
 use Rattle.split_queue.proofs.ChainNumbers.{AreFree-chain_numbers, AreFree-below, length-chain_numbers}
 use Rattle.split_queue.proofs.RingLaws.{with_descriptors-changes, with_available_entry-changes, with_available_entry-idx}
-use Rattle.split_queue.proofs.PostedDescriptors.{FitsFields, AreLinked, AreLinked-same, with_descriptors-linked, with_available_entry-head}
+use Rattle.split_queue.proofs.PostedDescriptors.{FitsFields, AreLinked-same, with_descriptors-linked, with_available_entry-head}
+use Rattle.split_queue.proofs.ReplyLaws.{bytes_in-same}
 use Rattle.split_queue.proofs.BufferLaws.{chain_with}
 use Rattle.split_queue.proofs.PostedWalk.{unvisited_more, chain_from-linked}
 use Rattle.split_queue.specs.declared.queue_place.Place.{Place}
 use Rattle.split_queue.specs.declared.chain.Chain.{Chain}
 use Rattle.split_queue.specs.declared.chain.Piece.{Piece}
-
--- pieces that are clear of a queue keep their bytes where nothing but the queue was changed
-bytes_stay : (before after : List ℕ) (place : Place) (pieces : List Piece) → ChangesOnly before after (IsInQueue place) → All (IsClearOf place) pieces → flat_map (λ (p : Piece). bytes_at after p.addr p.len) pieces ≡ flat_map (λ (p : Piece). bytes_at before p.addr p.len) pieces
-bytes_stay before after place [] changes clear = refl
-bytes_stay before after place (piece ∷ pieces) changes clear =
-    let apart = All-head (IsClearOf place) piece pieces clear in
-    let here = bytes_at-same before after piece.addr piece.len changes.size (λ k low high. changes.others k (apart k (low, high))) in
-    let later = bytes_stay before after place pieces changes (All-tail (IsClearOf place) piece pieces clear) in
-    ap (λ xs. xs ++ flat_map (λ (p : Piece). bytes_at after p.addr p.len) pieces) here ∙ ap (λ xs. bytes_at before piece.addr piece.len ++ xs) later
 
 -- a pop where one chain was made available
 pop_answer-next : (mem : List ℕ) (place : Place) (index head : ℕ) (chain : Chain) → index < 2 ^ 16 → 0 < place.size → head < place.size → available_idx mem place ≡ index_after index → available_head mem place index ≡ head → chain_of mem place head ≡ Ok chain → pop_answer mem place index ≡ Ok (Some chain)
@@ -82,25 +73,29 @@ module _ (mem : List ℕ) (place : Place) (owners : List (Option ℕ)) (index nu
     }
 
     module _ (fields : All FitsFields pieces) (as_long : length numbers ≡ length later) (postable : ArePostable (length mem) place pieces readable) where
-      -- the walk from the head gives the pieces, and so does a pop
-      after-linked : AreLinked after place (number ∷ numbers) pieces readable
-      after-linked = AreLinked-same place owners same_size table_memory after (number ∷ numbers) pieces readable table-same free_list (with_descriptors-linked place owners same_size mem (number ∷ numbers) pieces readable small placed.table free_list fields)
-
-      after-chain : chain_of after place number ≡ Ok (chain_of_pieces mem number pieces readable)
+      -- the walk from the head gives the pieces, in each memory with this table and these bytes in the readable pieces
+      chain_of-linked : (last : List ℕ) → HaveSame table_memory last place.desc (table_bytes place.size) → length last ≡ length mem
+          → bytes_in last (take readable pieces) ≡ bytes_in mem (take readable pieces)
+          → chain_of last place number ≡ Ok (chain_of_pieces mem number pieces readable)
       unfolding chain_of
-      after-chain =
+      chain_of-linked last same size bytes =
+          let linked = AreLinked-same place owners same_size table_memory last (number ∷ numbers) pieces readable same free_list (with_descriptors-linked place owners same_size mem (number ∷ numbers) pieces readable small placed.table free_list fields) in
           let not_visited = unvisited_more [] numbers number (all_weaker (λ other. other ≢ number) _ (λ other ne. refl) numbers free_list.2) free_list.2 in
-          let bytes = bytes_stay mem after place (take readable pieces) queue-changes (All-take (IsClearOf place) readable pieces postable.clear) in
-          chain_from-linked after place owners (number ∷ []) (bare_chain number) (most_descriptors - 1) number numbers piece later readable (omega (arith, postable.few)) (record {
-            descriptors = after-linked;
+          chain_from-linked last place owners (number ∷ []) (bare_chain number) (most_descriptors - 1) number numbers piece later readable (omega (arith, postable.few)) (record {
+            descriptors = linked;
             same_size = same_size;
             free_list = free_list.3;
             unvisited = not_visited;
             as_long = as_long;
-            inside = subst (λ n. All (PieceLiesIn n) pieces) (sym after-size) postable.inside;
+            inside = subst (λ n. All (PieceLiesIn n) pieces) (sym size) postable.inside;
             short = omega (arith, postable.short);
             readable_first = λ some. refl;
           }) ∙ ap Ok (ap (λ xs. chain_with number xs (drop readable pieces)) bytes)
+
+      after-chain : chain_of after place number ≡ Ok (chain_of_pieces mem number pieces readable)
+      after-chain =
+          chain_of-linked after table-same after-size
+          (bytes_in-same mem after (IsInQueue place) (take readable pieces) queue-changes (All-take (IsClearOf place) readable pieces postable.clear))
 
       after-pop_answer : index < 2 ^ 16 → pop_answer after place index ≡ Ok (Some (chain_of_pieces mem number pieces readable))
       after-pop_answer index_small =
@@ -114,6 +109,17 @@ pop_answer-numbers : (mem : List ℕ) (place : Place) (owners : List (Option ℕ
 pop_answer-numbers mem place owners index numbers [] readable placed same_size small free_list fields as_long some postable index_small = absurd (omega arith)
 pop_answer-numbers mem place owners index [] (piece ∷ later) readable placed same_size small free_list fields as_long some postable index_small = absurd (omega (arith, as_long))
 pop_answer-numbers mem place owners index (number ∷ numbers) (piece ∷ later) readable placed same_size small free_list fields as_long some postable index_small = after-pop_answer mem place owners index number numbers piece later readable placed same_size small free_list fields (omega (arith, as_long)) postable index_small
+
+pub chain_of-numbers : (mem : List ℕ) (place : Place) (owners : List (Option ℕ)) (numbers : List ℕ) (pieces : List Piece) (readable : ℕ)
+    → IsPlaced place (length mem) → length owners ≡ place.size → place.size < 2 ^ 16 → AreFree owners numbers → All FitsFields pieces
+    → length numbers ≡ length pieces → 0 < length pieces → ArePostable (length mem) place pieces readable → (last : List ℕ)
+    → HaveSame (with_descriptors mem place numbers pieces readable) last place.desc (table_bytes place.size) → length last ≡ length mem
+    → bytes_in last (take readable pieces) ≡ bytes_in mem (take readable pieces)
+    → chain_of last place (get_or numbers 0 0) ≡ Ok (chain_of_pieces mem (get_or numbers 0 0) pieces readable)
+chain_of-numbers mem place owners numbers [] readable placed same_size small free_list fields as_long some postable last same size bytes = absurd (omega arith)
+chain_of-numbers mem place owners [] (piece ∷ later) readable placed same_size small free_list fields as_long some postable last same size bytes = absurd (omega (arith, as_long))
+chain_of-numbers mem place owners (number ∷ numbers) (piece ∷ later) readable placed same_size small free_list fields as_long some postable last same size bytes =
+    chain_of-linked mem place owners 0 number numbers piece later readable placed same_size small free_list fields (omega (arith, as_long)) postable last same size bytes
 
 -- what was posted is popped, where the ends agree
 pub post-pops : (mem : List ℕ) (end : DriverEndState) (device : DeviceEndState) (pieces : List Piece) (readable : ℕ) → 0 < length pieces → length pieces ≤ length end.pool.free → IsPlaced end.place (length mem) → length end.pool.owners ≡ end.place.size → length end.pool.owners < 2 ^ 16 → AreFree end.pool.owners end.pool.free → All (λ p. p.len < 2 ^ 32) pieces → Agree end device mem → ArePostable (length mem) end.place pieces readable → pop_answer (with_post mem end pieces readable) device.place device.next ≡ Ok (Some (chain_of_pieces mem (get_or (reverse end.pool.free) 0 0) pieces readable))

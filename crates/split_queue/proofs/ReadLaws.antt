@@ -1,5 +1,5 @@
 -- What is read of a memory in which a number, or a descriptor, was written.
-use Rattle.std.proofs.Common.{◌≡◌, ℕ, ◌+◌, ◌^◌, ◌<◌, ◌≤◌, ◌⊎◌, inl, inr, List, length, get_or, refl, ap, ◌∙◌, arith}
+use Rattle.std.proofs.Common.{◌≡◌, ℕ, ◌+◌, ◌^◌, ◌<◌, ◌≤◌, ◌⊎◌, inl, inr, List, length, refl, ◌∙◌, arith}
 use Rattle.std.specs.Int.{to_le_bytes, w16, w32, w64}
 use Rattle.byte_numbers.proofs.NumberLaws.{HaveSame, HaveSame-part, le16_at-same, le32_at-same, le64_at-same, le16_at-bytes, le32_at-bytes, le64_at-bytes}
 use Rattle.guest_mem.specs.Memory.{ChangesOnly, IsInRange}

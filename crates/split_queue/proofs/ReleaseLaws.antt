@@ -1,4 +1,4 @@
--- A chain that comes back frees each of its descriptors, and at least those that it got.
+-- A chain that comes back frees each of its descriptors, which are as many as it got.
 use Rattle.std.proofs.Common.{◌≡◌, ℕ, zero, suc, ◌+◌, ◌-◌, ◌<◌, ◌≤◌, true, false, cond, List, [], ◌∷◌, ◌++◌, length, length-append, length-take, take, reverse, get_or, Option, Some, None, refl, sym, ap, ◌∙◌, subst, arith}
 use Rattle.std.specs.List.{count_by, Contains}
 use Rattle.std.proofs.Math.ListN.{set}
@@ -7,8 +7,9 @@ use Rattle.std.proofs.lemmas.List.{reverse-append, take_all, take_more}
 use Rattle.std.proofs.lemmas.List.Elements.{Contains-append_right}
 use Rattle.std.proofs.lemmas.List.Sums.{sum_by-set, sum_by-cons}
 use Rattle.split_queue.specs.DriverEnds.{chain_numbers, owners_with, pool_after_post}
-use Rattle.split_queue.specs.Pools.{PoolState, is_owned_by, numbers_in_chain, owner_of, AreFree, after_release}
+use Rattle.split_queue.specs.Pools.{PoolState, is_owned_by, numbers_in_chain, owner_of, AreFree, HeadsAreOut, after_release}
 use Rattle.split_queue.proofs.PoolLaws.{last_free, AreFree-pop}
+use Rattle.split_queue.proofs.LinkLaws.{no_chain}
 
 -- how many descriptors are out in the chain of a head
 abbrev owned_count : ℕ → List (Option ℕ) → ℕ
@@ -35,7 +36,7 @@ before-last free some =
     let one : length free - 1 + 1 ≡ length free = omega arith in
     sym (take_all (length free) free (omega arith)) ∙ ap (λ k. take k free) (sym one) ∙ take_more free (length free - 1) 0 (omega arith)
 
-chain_numbers-owned : (count head : ℕ) (owners : List (Option ℕ)) (free : List ℕ) → AreFree owners free → count ≤ length free → count + owned_count head owners ≤ owned_count head (owners_with owners (chain_numbers count free) head)
+chain_numbers-owned : (count head : ℕ) (owners : List (Option ℕ)) (free : List ℕ) → AreFree owners free → count ≤ length free → owned_count head (owners_with owners (chain_numbers count free) head) ≡ count + owned_count head owners
 chain_numbers-owned zero head owners free free_list enough = omega arith
 chain_numbers-owned (suc count) head owners free free_list enough =
     let rest = take (length free - 1) free in
@@ -49,14 +50,27 @@ chain_numbers-owned (suc count) head owners free free_list enough =
     let later = chain_numbers-owned count head (set owners number (Some head)) rest (AreFree-pop owners rest number head listed_now) (omega arith) in
     rw given_now (omega (arith, later, owned_count-claim head owners number last.0 last.1))
 
--- after a chain of so many went out and came back, no fewer are free
-pub after_release-free : (pool : PoolState) (count head : ℕ) → AreFree pool.owners pool.free → count ≤ length pool.free → head ≡ get_or (reverse pool.free) 0 0 → length pool.free ≤ length (after_release (pool_after_post pool count) head).free
-after_release-free pool count head free_list enough is_head =
+-- a head that is free has no chain
+owned_count-none : (head : ℕ) (owners : List (Option ℕ)) → ((number : ℕ) → is_owned_by head (owner_of owners number) ≡ false)
+    → owned_count head owners ≡ 0
+owned_count-none head [] none = refl
+owned_count-none head (o ∷ owners) none =
+    let first : is_owned_by head o ≡ false = none 0 in
+    let here : weight head o ≡ 0 = rw first refl in
+    omega (arith, here, sum_by-cons (weight head) o owners, owned_count-none head owners (λ number. none (suc number)))
+
+-- after a chain of so many went out and came back, as many are free as before
+pub after_release-free : (pool : PoolState) (count head : ℕ) → HeadsAreOut pool.owners → owner_of pool.owners head ≡ None
+    → AreFree pool.owners pool.free → count ≤ length pool.free → head ≡ get_or (reverse pool.free) 0 0
+    → length (after_release (pool_after_post pool count) head).free ≡ length pool.free
+after_release-free pool count head heads none free_list enough is_head =
     let owners = owners_with pool.owners (chain_numbers count pool.free) (get_or (reverse pool.free) 0 0) in
     let owned = chain_numbers-owned count head pool.owners pool.free free_list enough in
+    let before = owned_count-none head pool.owners (no_chain pool.owners head heads none) in
     let owned_now = rw is_head at owned in
+    let before_now = rw is_head at before in
     let left : length (take (length pool.free - count) pool.free) ≡ length pool.free - count = omega (arith, length-take (length pool.free - count) pool.free) in
-    rw is_head (omega (arith, left, length-append (take (length pool.free - count) pool.free) (numbers_in_chain (get_or (reverse pool.free) 0 0) 0 owners), length-numbers_in_chain (get_or (reverse pool.free) 0 0) 0 owners, owned_now))
+    rw is_head (omega (arith, left, length-append (take (length pool.free - count) pool.free) (numbers_in_chain (get_or (reverse pool.free) 0 0) 0 owners), length-numbers_in_chain (get_or (reverse pool.free) 0 0) 0 owners, owned_now, before_now))
 
 -- a descriptor of the chain stands among those that come back
 numbers_in_chain-has : (head from : ℕ) (owners : List (Option ℕ)) (number : ℕ) → owner_of owners number ≡ Some head → Contains (numbers_in_chain head from owners) (from + number)

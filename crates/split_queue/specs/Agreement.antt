@@ -1,13 +1,14 @@
 -- When the two ends of a queue agree, and what a driver's chain is at the device's end: however its bytes are cut into
 -- pieces, the device gets the same. This project's own.
 use Rattle.std.specs.Prelude.{◌≡◌, ℕ, ◌^◌, ◌<◌, ◌≤◌, ◌⊎◌, List, length, take, drop, All, Ok}
-use Rattle.std.specs.List.{flat_map}
-use Rattle.guest_mem.specs.Memory.{bytes_at, ChangesOnly}
-use Rattle.split_queue.specs.Chains.{most_descriptors, most_readable, room_of, PieceLiesIn, IsInPiece}
+use Rattle.std.specs.List.{AllPairs}
+use Rattle.guest_mem.specs.Memory.{ChangesOnly}
+use Rattle.split_queue.specs.Chains.{most_descriptors, most_readable, room_of, bytes_in, PieceLiesIn, with_bytes_in, IsInPiece, AreApart}
 use Rattle.split_queue.specs.DeviceEnds.{DeviceEndState}
 use Rattle.split_queue.specs.DriverEnds.{DriverEndState, post_answer, after_post, with_post, after_take}
-use Rattle.split_queue.specs.Rings.{available_idx, used_idx, with_used_entry, IsInRings}
+use Rattle.split_queue.specs.Rings.{available_idx, used_idx, with_used_entry, last_available_head, last_used_element, IsInRings}
 use Rattle.split_queue.specs.Setup.{table_area, IsInArea}
+use Rattle.split_queue.specs.Walks.{chain_of}
 use Rattle.split_queue.specs.declared.chain.Chain.{Chain}
 use Rattle.split_queue.specs.declared.chain.Piece.{Piece}
 use Rattle.split_queue.specs.declared.queue_place.Place.{Place}
@@ -43,7 +44,7 @@ pub record ArePostable (mem_len : ℕ) (place : Place) (pieces : List Piece) (re
 abbrev pub chain_of_pieces : List ℕ → ℕ → List Piece → ℕ → Chain
 chain_of_pieces mem head pieces readable = record {
   head = head;
-  readable = record { items = flat_map (λ p. bytes_at mem p.addr p.len) (take readable pieces) };
+  readable = record { items = bytes_in mem (take readable pieces) };
   writable = record { items = drop readable pieces };
 }
 
@@ -75,3 +76,26 @@ pub record IsRound (driver : DriverEndState) (device : DeviceEndState) (round : 
 -- the driver's end after a round
 abbrev pub after_round : DriverEndState → Round → DriverEndState
 after_round driver round = after_take (after_post driver (length round.pieces)) round.head
+
+-- places for a command and its reply: no writable piece shares a byte with a readable one, nor with another writable one
+pub record LieApartForReply (pieces : List Piece) (readable : ℕ) : Type 0 where
+  pub command : All (λ p. All (AreApart p) (drop readable pieces)) (take readable pieces)
+  pub reply : AllPairs AreApart (drop readable pieces)
+
+-- a round in which the device writes a reply into the writable pieces, which have room for it, and nothing else
+pub record IsReplyRound (driver : DriverEndState) (device : DeviceEndState) (round : Round) (reply : List ℕ) : Type 0 where
+  pub is_round : IsRound driver device round
+  pub postable : ArePostable (length round.at_post) driver.place round.pieces round.readable
+  pub lengths : All (λ p. p.len < 2 ^ 32) round.pieces
+  pub places : LieApartForReply round.pieces round.readable
+  pub fits : length reply ≤ room_of (drop round.readable round.pieces)
+  pub written : round.at_push
+      ≡ with_bytes_in (with_post round.at_post driver round.pieces round.readable) (drop round.readable round.pieces) reply
+
+-- the queue holds a command and its reply: the slot that was filled last has the head of this chain, its writable
+-- buffers begin with the reply, and the used element that was written last names its head and a length
+pub record HoldsAnswer (mem : List ℕ) (place : Place) (chain : Chain) (reply : List ℕ) (len : ℕ) : Type 0 where
+  pub in_last_slot : last_available_head mem place ≡ chain.head
+  pub is_chain : chain_of mem place chain.head ≡ Ok chain
+  pub begins : take (length reply) (bytes_in mem chain.writable.items) ≡ reply
+  pub last_used : last_used_element mem place ≡ (chain.head, len)

@@ -5,7 +5,7 @@ use Rattle.guest_mem.specs.Memory.{IsInRange}
 use Rattle.byte_numbers.specs.Numbers.{le32_at}
 use Rattle.split_queue.specs.Descriptors.{with_descriptor, next_flag, write_flag}
 use Rattle.split_queue.specs.QueuePlaces.{descriptor_bytes, descriptor_addr, used_element_addr}
-use Rattle.split_queue.specs.Pools.{PoolState, first_free, owner_of, is_chain_head, after_release, AreFree}
+use Rattle.split_queue.specs.Pools.{PoolState, first_free, owner_of, is_chain_head, after_release, AreFree, HeadsAreOut}
 use Rattle.split_queue.specs.Rings.{index_after, index_gap, with_available_entry, IsInAvailableEntry, used_idx}
 use Rattle.split_queue.specs.Setup.{IsPlaced}
 use Rattle.split_queue.specs.declared.chain.Piece.{Piece}
@@ -30,11 +30,13 @@ pub record IsDriver (place : Place) (mem_len : ℕ) (pool : PoolState) : Type 0 
   pub placed : IsPlaced place mem_len
   pub same_size : length pool.owners ≡ place.size
 
--- what every end knows of itself: the invariant of an end, and of its pool that the free ones are distinct descriptors
+-- what every end knows of itself: the invariant of an end, and of its pool that the free ones are distinct descriptors,
+-- and that the head of each chain that is out is out in it
 pub record IsValidDriver (end : DriverEndState) : Type 0 where
   pub valid : IsDriver end.place end.mem_len end.pool
   pub free_list : AreFree end.pool.owners end.pool.free
   pub few : length end.pool.owners < 2 ^ 16
+  pub heads : HeadsAreOut end.pool.owners
 
 -- ---- a chain is posted
 

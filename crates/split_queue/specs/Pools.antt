@@ -59,3 +59,37 @@ pub record IsPool (owners : List (Option ℕ)) (free : List ℕ) (room : ℕ) : 
   pub count : out_count owners + length free ≡ length owners
   pub fits : length owners ≤ room
   pub few : length owners < 2 ^ 16
+
+-- ---- the links of chains
+
+-- each descriptor that is out is in the chain of a head that is out in it
+abbrev pub HeadsAreOut : List (Option ℕ) → Type 0
+HeadsAreOut owners = (number head : ℕ) → owner_of owners number ≡ Some head → owner_of owners head ≡ Some head
+
+-- how often a number stands in a list
+abbrev pub times : ℕ → List ℕ → ℕ
+times number numbers = count_by (λ n. n == number) numbers
+
+-- just the descriptors that are out in the chain of the head stand in the list, each once
+abbrev pub AreOut : ℕ → List (Option ℕ) → List ℕ → Type 0
+AreOut head owners numbers =
+    (number : ℕ) → times number numbers ≡ (if is_owned_by head (owner_of owners number) then 1 else 0)
+
+-- the numbers from `next` on, each the link of the one before it, until the link is the head again
+abbrev pub LinksLead : List ℕ → ℕ → ℕ → List ℕ → Type 0
+LinksLead links head next [] = next ≡ head
+LinksLead links head next (number ∷ numbers) = (next ≡ number) × LinksLead links head (slice_index links number) numbers
+
+-- the links lead from the head through the numbers, which are with the head its chain
+pub record IsLinkedChain (owners : List (Option ℕ)) (links : List ℕ) (head : ℕ) (numbers : List ℕ) : Type 0 where
+  pub in_line : LinksLead links head (slice_index links head) numbers
+  pub once : AreOut head owners (head ∷ numbers)
+
+abbrev pub HasLinkedChain : List (Option ℕ) → List ℕ → ℕ → Type 0
+HasLinkedChain owners links head = (numbers : List ℕ) × IsLinkedChain owners links head numbers
+
+-- the links of all chains that are out
+pub record AreChains (owners : List (Option ℕ)) (links : List ℕ) : Type 0 where
+  pub same_size : length links ≡ length owners
+  pub heads : HeadsAreOut owners
+  pub linked : (head : ℕ) → owner_of owners head ≡ Some head → HasLinkedChain owners links head

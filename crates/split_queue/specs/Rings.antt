@@ -2,7 +2,7 @@
 -- "The Virtqueue Available Ring" and "The Virtqueue Used Ring").
 use Rattle.std.specs.Prelude.{◌≡◌, ℕ, ◌+◌, ◌-◌, ◌%◌, ◌^◌, ◌⊎◌, List, slice_index}
 use Rattle.guest_mem.specs.Memory.{IsInRange, ChangesOnly}
-use Rattle.byte_numbers.specs.Numbers.{le16_at}
+use Rattle.byte_numbers.specs.Numbers.{le16_at, le32_at}
 use Rattle.split_queue.specs.Descriptors.{with_le16, with_le32}
 use Rattle.split_queue.specs.QueuePlaces.{available_slot_bytes, used_element_bytes, idx_bytes, available_idx_addr, available_slot_addr, used_idx_addr, used_element_addr}
 use Rattle.split_queue.specs.Setup.{available_area, used_area, IsInArea}
@@ -12,6 +12,10 @@ use Rattle.split_queue.specs.declared.setup.Area.{Area}
 -- the index after an index
 abbrev pub index_after : ℕ → ℕ
 index_after index = (index + 1) % 2 ^ 16
+
+-- the index before an index
+abbrev pub index_before : ℕ → ℕ
+index_before index = (index + (2 ^ 16 - 1)) % 2 ^ 16
 
 -- how far the index `to` is ahead of `from`
 abbrev pub index_gap : ℕ → ℕ → ℕ
@@ -26,6 +30,10 @@ available_idx mem place = le16_at mem (available_idx_addr place)
 -- the head in the slot of an index
 abbrev pub available_head : List ℕ → Place → ℕ → ℕ
 available_head mem place index = le16_at mem (available_slot_addr place index)
+
+-- the head in the slot that was filled last
+abbrev pub last_available_head : List ℕ → Place → ℕ
+last_available_head mem place = available_head mem place (index_before (available_idx mem place))
 
 -- the memory with a head in the slot of an index, and with the index after it
 unfoldable pub with_available_entry : List ℕ → Place → ℕ → ℕ → List ℕ
@@ -44,6 +52,12 @@ IsInAvailableEntry place index addr =
 -- the ring's index: where the device puts the next element
 abbrev pub used_idx : List ℕ → Place → ℕ
 used_idx mem place = le16_at mem (used_idx_addr place)
+
+-- the element that was written last: le32 head and le32 length
+abbrev pub last_used_element : List ℕ → Place → ℕ × ℕ
+last_used_element mem place =
+    let element = used_element_addr place (index_before (used_idx mem place)) in
+    (le32_at mem element, le32_at mem (element + 4))
 
 -- the memory with an element in the slot of an index, le32 head and le32 length, and with the index after it
 unfoldable pub with_used_entry : List ℕ → Place → ℕ → ℕ → ℕ → List ℕ

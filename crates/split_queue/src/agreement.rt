@@ -1,8 +1,8 @@
 //! Laws of the two ends together. Each call does nothing: its contract is the law.
 
-ghost use Rattle.std.specs.Prelude.{◌≡◌, ℕ, ◌≤◌, List, length, Some, Ok, All};
+ghost use Rattle.std.specs.Prelude.{◌≡◌, ℕ, List, length, Some, Ok, All};
 ghost use Rattle.guest_mem.specs.Memory.{ChangesOnly};
-ghost use Rattle.split_queue.specs.Agreement.{Agree, IsClearOf, KeepsQueue, Round, IsRound, after_round};
+ghost use Rattle.split_queue.specs.Agreement.{Agree, IsClearOf, KeepsQueue, Round, IsRound, after_round, IsReplyRound, HoldsAnswer, chain_of_pieces};
 ghost use Rattle.split_queue.specs.Chains.{IsInPieces};
 ghost use Rattle.split_queue.specs.DeviceEnds.{DeviceEndState, after_pop, after_push};
 ghost use Rattle.split_queue.specs.DriverEnds.{DriverEndState, after_post, take_answer};
@@ -25,7 +25,7 @@ pub fn writable_pieces_keep_the_queue()
 {}
 
 /// A round of post, pop, push_used and take, from a driver's end before the post: the take gives the chain that was
-/// pushed, with its length, the ends agree again, and no fewer descriptors are free than before.
+/// pushed, with its length, the ends agree again, and as many descriptors are free as before.
 pub fn rounds_keep_agreement(driver: &DriverEnd)
     ensures takes { (device : DeviceEndState) (round : Round) → IsRound driver.now device round
         → let out = after_post driver.now (length round.pieces) in
@@ -33,7 +33,19 @@ pub fn rounds_keep_agreement(driver: &DriverEnd)
     ensures agree { (device : DeviceEndState) (round : Round) → IsRound driver.now device round
         → Agree (after_round driver.now round) (after_push (after_pop device)) round.at_take }
     ensures frees { (device : DeviceEndState) (round : Round) → IsRound driver.now device round
-        → length driver.now.pool.free ≤ length (after_round driver.now round).pool.free }
+        → length (after_round driver.now round).pool.free ≡ length driver.now.pool.free }
+{
+    let _ = driver.free_len();
+}
+
+/// After a round in which the device wrote a reply into the chain's writable pieces, the queue holds both: the slot that
+/// was filled last has the head of the chain that was posted, whose readable part is the command still, its writable
+/// buffers begin with the reply, and the used element that was written last names the head and the length. The writable
+/// pieces share no byte with the readable ones, nor with one another.
+pub fn rounds_leave_the_answer(driver: &DriverEnd)
+    ensures { (device : DeviceEndState) (round : Round) (reply : List ℕ) → IsReplyRound driver.now device round reply
+        → let chain = chain_of_pieces round.at_post round.head round.pieces round.readable in
+        HoldsAnswer round.at_take driver.now.place chain reply round.len }
 {
     let _ = driver.free_len();
 }

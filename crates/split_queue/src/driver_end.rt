@@ -80,7 +80,8 @@ impl DriverEnd {
     pub fn free_len(&self) -> usize
         ensures value { result ≡ length self.now.pool.free }
 
-        // Its queue lies in the memory, and its free descriptors are distinct ones of the queue.
+        // Its queue lies in the memory, its free descriptors are distinct ones of the queue, and the head of each chain
+        // is out in it.
         ensures valid { IsValidDriver self.now }
     {
         self.pool.free_len()
@@ -157,7 +158,8 @@ fn next_used(
     index: u16,
 ) -> Result<Option<(u16, u32)>, TakeErr>
     requires { IsPlaced place (length mem.now) }
-    ensures { result ≡ take_answer mem.now place pool.now index }
+    ensures answer { result ≡ take_answer mem.now place pool.now index }
+    ensures out { IfOk result (λ element. IfSome element (λ e. owner_of pool.now.owners e.0 ≡ Some e.0)) }
 {
     let idx = used_idx(mem, place);
     if idx == index {

@@ -12,8 +12,9 @@
 //! call but [`DriverEnd::new`] asks for memory. In which order one call writes its bytes, no contract says.
 //!
 //! Both ends of a fresh queue agree, and bytes outside of the queue don't change that. After a round of post, pop, push
-//! and take they agree again: the take gives the chain that was pushed, and no fewer descriptors are free than before
-//! ([`rounds_keep_agreement`]).
+//! and take they agree again: the take gives the chain that was pushed, and as many descriptors are free as before
+//! ([`rounds_keep_agreement`]). Where the device writes a reply into the chain's writable pieces, command and reply lie
+//! in the queue afterwards ([`rounds_leave_the_answer`]).
 //!
 //! The modules, lowest first: `queue_place` (where a queue lies), `setup` (whether it may lie there), `number`
 //! (in memory), `descriptor`, `ring`, `chain` (what a device gets), `ring_err`, `walk` (from a head to its chain),
@@ -38,7 +39,8 @@ mod setup;
 mod walk;
 
 pub use agreement::{
-    other_bytes_keep_agreement, rounds_keep_agreement, writable_pieces_keep_the_queue,
+    other_bytes_keep_agreement, rounds_keep_agreement, rounds_leave_the_answer,
+    writable_pieces_keep_the_queue,
 };
 pub use chain::{Chain, MOST_DESCRIPTORS, MOST_READABLE, Piece};
 pub use device_end::DeviceEnd;
