@@ -2,7 +2,8 @@
 ghost use Rattle.std.specs.Prelude.{◌≡◌, ◌<◌, ◌/◌, ◌%◌, length, decimal, slice_index, drop, ◌++◌};
 ghost use Rattle.std.specs.List.{flat_map};
 ghost use Rattle.vnff_base.specs.Outputs.{Writes};
-ghost use Rattle.ntuple_text.specs.SpecTexts.{four_digits, form_text, ipv4_text, ipv6_text, leading_zeros, mac_text, next_piece, piece_text, pieces_text, type_text};
+ghost use Rattle.ntuple_text.specs.SpecTexts.{form_text, four_digits, ipv4_text, ipv6_text, leading_zeros, mac_text};
+ghost use Rattle.ntuple_text.specs.SpecTexts.{next_piece, piece_text, pieces_text, type_text};
 
 use crate::key::Form;
 use crate::piece::Spelling;
