@@ -2,6 +2,7 @@
 -- project's own.
 use Rattle.std.specs.Prelude.{ℕ, Bool, true, false, if◌then◌else◌, ◌||◌, not}
 use Rattle.std.specs.Prelude.{List, [], ◌∷◌, codes, Option, Some, None, option_map}
+use Rattle.std.specs.List.{find}
 use Rattle.std.specs.Str.{bytes_eq}
 use Rattle.ntuple_text.specs.declared.key.Field.{Field}
 use Rattle.ntuple_text.specs.declared.key.Field.TheVariants.{SrcMac, DstMac, EtherType, SrcIp, DstIp}
@@ -13,12 +14,6 @@ use Rattle.ntuple_text.specs.declared.key.OptionKey.TheVariants as key
 use Rattle.ntuple_text.specs.declared.spec.Flow.{Flow}
 use Rattle.ntuple_text.specs.declared.spec.Flow.TheVariants.{Ether, Ip4, Tcp4, Udp4, Ip6, Tcp6, Udp6}
 
--- the first whose word it is
-abbrev pub first_named : {A : Type 0} → (A → List ℕ) → List A → List ℕ → Option A
-first_named word_of [] word = None
-first_named word_of (first ∷ others) word =
-    if bytes_eq word (word_of first) then Some first else first_named word_of others word
-
 -- the word of a flow
 unfoldable pub flow_word : Flow → List ℕ
 flow_word Ether = codes "ether"
@@ -29,9 +24,12 @@ flow_word Ip6 = codes "ip6"
 flow_word Tcp6 = codes "tcp6"
 flow_word Udp6 = codes "udp6"
 
+abbrev pub all_flows : List Flow
+all_flows = Ether ∷ Ip4 ∷ Tcp4 ∷ Udp4 ∷ Ip6 ∷ Tcp6 ∷ Udp6 ∷ []
+
 -- the flow that a word names
 unfoldable pub flow_of : List ℕ → Option Flow
-flow_of word = first_named flow_word (Ether ∷ Ip4 ∷ Tcp4 ∷ Udp4 ∷ Ip6 ∷ Tcp6 ∷ Udp6 ∷ []) word
+flow_of word = find (λ flow. bytes_eq word (flow_word flow)) all_flows
 
 -- the word that names a field
 unfoldable pub field_name : Field → List ℕ
@@ -52,7 +50,7 @@ all_fields =
 
 -- the field that a word names
 unfoldable pub field_of : List ℕ → Option Field
-field_of word = first_named field_name all_fields word
+field_of word = find (λ field. bytes_eq word (field_name field)) all_fields
 
 -- what the option that a word names is about
 unfoldable pub key_of : List ℕ → Option OptionKey
