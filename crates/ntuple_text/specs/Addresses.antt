@@ -35,6 +35,7 @@ mac_of word = option_and_then (address_of_bytes MacGroup mac_bytes) (pieces_of M
 unfoldable pub ipv4_of : List ℕ → Option ℕ
 ipv4_of word = option_and_then (address_of_bytes Ipv4Byte ipv4_bytes) (pieces_of Ipv4Byte dot word)
 
+-- a dot, which tells that a piece is spelled as an IPv4 address
 abbrev pub is_dot : ℕ → Bool
 is_dot byte = byte == dot
 

@@ -89,9 +89,11 @@ abbrev pub with_value : Draft → Field → ℕ → Draft
 with_value draft field value =
     with_awaits (with_part draft field (Some (record { value = value; skip = 0 }))) (Mark field)
 
+-- with an action, after which an option may begin
 abbrev pub with_action : Draft → TableDo → Draft
 with_action draft action = record draft { action = Some action; awaits = OptionWord }
 
+-- with a location, after which an option may begin
 abbrev pub with_loc : Draft → ℕ → Draft
 with_loc draft loc = record draft { loc = Some loc; awaits = OptionWord }
 
@@ -109,6 +111,7 @@ with_value_word pairs draft key.Loc word = and_then (λ loc. Ok (with_loc draft 
 abbrev pub with_skip : ℕ → Part → Part
 with_skip mask part = record part { skip = mask }
 
+-- with the mask of a field, after which an option may begin
 abbrev pub with_mask : Draft → Field → ℕ → Draft
 with_mask draft field mask =
     with_awaits (with_part draft field (option_map (with_skip mask) (part_of draft field))) OptionWord
@@ -130,6 +133,7 @@ read_next pairs draft word (Value about) = with_value_word pairs draft about wor
 read_next pairs draft word (Mark field) = with_mark_word draft field word
 read_next pairs draft word (Mask field) = with_mask_word draft field word
 
+-- one more word
 unfoldable pub read_word : ℕ → Draft → List ℕ → Result Draft Fault
 read_word pairs draft word = read_next pairs draft word draft.awaits
 

@@ -24,6 +24,7 @@ flow_word Ip6 = codes "ip6"
 flow_word Tcp6 = codes "tcp6"
 flow_word Udp6 = codes "udp6"
 
+-- every flow
 abbrev pub all_flows : List Flow
 all_flows = Ether ∷ Ip4 ∷ Tcp4 ∷ Udp4 ∷ Ip6 ∷ Tcp6 ∷ Udp6 ∷ []
 
@@ -44,6 +45,7 @@ field_name L4Proto = codes "l4proto"
 field_name SrcPort = codes "src-port"
 field_name DstPort = codes "dst-port"
 
+-- every field
 abbrev pub all_fields : List Field
 all_fields =
     SrcMac ∷ DstMac ∷ EtherType ∷ SrcIp ∷ DstIp ∷ Tos ∷ TrafficClass ∷ L4Proto ∷ SrcPort ∷ DstPort ∷ []
@@ -60,16 +62,19 @@ key_of word =
     else (if bytes_eq word (codes "loc") then Some key.Loc
     else option_map (λ field. key.Field field) (field_of word)))
 
+-- a flow of any Ethernet frames
 abbrev pub is_ether : Flow → Bool
 is_ether Ether = true
 is_ether flow = false
 
+-- a flow of IPv4 frames
 abbrev pub is_ip4 : Flow → Bool
 is_ip4 Ip4 = true
 is_ip4 Tcp4 = true
 is_ip4 Udp4 = true
 is_ip4 flow = false
 
+-- a flow of IPv6 frames
 abbrev pub is_ip6 : Flow → Bool
 is_ip6 Ip6 = true
 is_ip6 Tcp6 = true

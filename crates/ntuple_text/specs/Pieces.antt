@@ -52,6 +52,7 @@ piece_of MacGroup piece = hex_group mac_group_digits piece
 piece_of Ipv4Byte piece = byte_within (number_of piece)
 piece_of Ipv6Group piece = hex_group ipv6_group_digits piece
 
+-- the byte between two pieces
 abbrev pub is_separator : ℕ → ℕ → Bool
 is_separator separator byte = byte == separator
 

@@ -41,11 +41,12 @@ piece_text Ipv6Group n = drop (leading_zeros n) (four_digits n)
 abbrev pub next_piece : Spelling → ℕ → ℕ → List ℕ
 next_piece spelling separator n = separator ∷ piece_text spelling n
 
--- pieces with separators between them
+-- a first piece and the others, with separators between them
 abbrev pub pieces_text : Spelling → ℕ → ℕ → List ℕ → List ℕ
 pieces_text spelling separator first rest =
     piece_text spelling first ++ flat_map (next_piece spelling separator) rest
 
+-- pieces with separators between them
 abbrev pub joined_text : Spelling → ℕ → List ℕ → List ℕ
 joined_text spelling separator [] = []
 joined_text spelling separator (first ∷ rest) = pieces_text spelling separator first rest
@@ -140,10 +141,12 @@ unfoldable pub part_text : Flow → Field → Part → List ℕ
 part_text flow field part =
     field_word field ++ (value_text flow field part.value ++ mask_text flow field part.skip)
 
+-- a field, where it is given
 abbrev pub optional_part_text : Flow → Field → Option Part → List ℕ
 optional_part_text flow field None = []
 optional_part_text flow field (Some part) = part_text flow field part
 
+-- a field of a spec, where it is given
 unfoldable pub field_text : Spec → Field → List ℕ
 field_text spec field = optional_part_text spec.flow field (spec_part spec field)
 

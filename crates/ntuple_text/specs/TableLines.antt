@@ -76,6 +76,7 @@ spec_if_complete table draft (Value about) = Err Word
 spec_if_complete table draft (Mark field) = spec_with_action table draft draft.action
 spec_if_complete table draft (Mask field) = Err Word
 
+-- the spec of a line's options, at the line's end
 unfoldable pub spec_at_end : TableMap → Draft → Result Spec Fault
 spec_at_end table draft = spec_if_complete table draft draft.awaits
 

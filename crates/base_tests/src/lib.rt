@@ -1,0 +1,7 @@
+//! Tests of the public calls of the crates that know nothing of a device: each call once on its happy path, since a
+//! body that always wants memory is proved too, and what no clause says. Nothing stands on this crate, so that no other
+//! is proved a second time for its tests.
+#![tactic(auto)]
+
+#[cfg(test)]
+mod tables;
