@@ -1,7 +1,7 @@
 -- The flows, their fields, and the words for them, after the ntuple options of ethtool(8). The choice of words is this
 -- project's own.
 use Rattle.std.specs.Prelude.{ℕ, Bool, true, false, if◌then◌else◌, ◌||◌, not}
-use Rattle.std.specs.Prelude.{List, [], ◌∷◌, codes, Option, Some, None, option_map}
+use Rattle.std.specs.Prelude.{List, [], ◌∷◌, codes, Option, Some, option_map}
 use Rattle.std.specs.List.{find}
 use Rattle.std.specs.Str.{bytes_eq}
 use Rattle.ntuple_text.specs.declared.key.Field.{Field}

@@ -9,17 +9,12 @@ ghost use Rattle.ntuple_text.specs.Addresses.{address_with_gap, all_groups, gap_
 ghost use Rattle.ntuple_text.specs.Addresses.{is_dot, is_gap, last_groups, mac_of};
 ghost use Rattle.ntuple_text.specs.Pieces.{group_base, most_groups};
 
-use crate::piece::{Groups, MOST_GROUPS, Spelling, piece_of, pieces_of};
+use crate::piece::{BYTE_BASE, GROUP_BASE, Groups, MOST_GROUPS, Spelling, piece_of, pieces_of};
 use arrayvec::ArrayVec;
 
 const MAC_BYTES: usize = 6;
 
 const IPV4_BYTES: usize = 4;
-
-// The bases in which an address is a number: of bytes, and of groups of 16 bits.
-const BYTE_BASE: u128 = 256;
-
-const GROUP_BASE: u128 = 65536;
 
 /// The address that six groups joined by `:` spell.
 #[tactic(auto, unfolding(crate::specs::Addresses::mac_of))]

@@ -21,6 +21,12 @@ pub enum Spelling {
     Ipv6Group,
 }
 
+/// The base in which a MAC or IPv4 address is a number, with bytes as digits.
+pub(crate) const BYTE_BASE: u128 = 256;
+
+/// The base in which an IPv6 address is a number, with groups as digits.
+pub(crate) const GROUP_BASE: u128 = 65536;
+
 /// The most parts that an address has.
 pub(crate) const MOST_GROUPS: usize = 8;
 
