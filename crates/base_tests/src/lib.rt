@@ -16,4 +16,6 @@ mod outputs;
 #[cfg(test)]
 mod queue;
 #[cfg(test)]
+mod tables;
+#[cfg(test)]
 mod words;

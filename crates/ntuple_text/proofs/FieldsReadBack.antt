@@ -1,30 +1,30 @@
 -- The fields of a spec's line are read back.
 use Rattle.std.proofs.Common.{◌≡◌, ℕ, ◌<◌, false, List, [], ◌∷◌, ap, refl, Bool, true, sym, ◌∙◌, Some, None, Option, codes, eqb, if◌then◌else◌, ◌==◌, Ok, Err, is_some}
 use Rattle.std.proofs.lemmas.Bool.{cond-true, eqb-true}
-use Rattle.ntuple_text.specs.Drafts.{awaiting, judged, masked, once, part_of, read_options, read_word, valued, with_mask, with_part, with_value}
-use Rattle.ntuple_text.specs.Keys.{form_of, is_in}
+use Rattle.ntuple_text.specs.Drafts.{with_awaits, with_option, with_mask_word, unless_stood, part_of, read_options, read_word, with_value_word, with_mask, with_part, with_value}
+use Rattle.ntuple_text.specs.Keys.{field_name, form_of, has_field}
 use Rattle.ntuple_text.specs.SpecTexts.{form_range, value_text, spec_part}
 use Rattle.ntuple_text.specs.Spellable.{IsSpelledIn}
 use Rattle.ntuple_text.specs.Steps.{and_then}
-use Rattle.ntuple_text.specs.Values.{value_of}
+use Rattle.ntuple_text.specs.Values.{field_value}
 use Rattle.ntuple_text.specs.declared.draft.Awaits.{Awaits}
 use Rattle.ntuple_text.specs.declared.draft.Awaits.TheVariants.{OptionWord, Value, Mark, Mask}
 use Rattle.ntuple_text.specs.declared.draft.Draft.{Draft}
-use Rattle.ntuple_text.specs.declared.fault.Fault.TheVariants as fault
+use Rattle.ntuple_text.specs.declared.error.Fault.TheVariants as fault
 use Rattle.ntuple_text.specs.declared.key.Field.{Field}
 use Rattle.ntuple_text.specs.declared.key.Field.TheVariants.{SrcMac, DstMac, EtherType, SrcIp, DstIp, Tos, TrafficClass, L4Proto, SrcPort, DstPort}
-use Rattle.ntuple_text.specs.declared.key.Key.TheVariants as key
+use Rattle.ntuple_text.specs.declared.key.OptionKey.TheVariants as key
 use Rattle.ntuple_text.specs.declared.spec.Part.{Part}
 use Rattle.ntuple_text.specs.declared.spec.Spec.{Spec}
-use Rattle.ntuple_text.proofs.OptionSteps.{name-key, name-other, options-append, options-step, is_ready, ready-word, once-new}
+use Rattle.ntuple_text.proofs.OptionSteps.{name-key, name-other, options-append, options-step, is_ready, ready-word, unless_stood-new}
 use Rattle.ntuple_text.proofs.ValuesReadBack.{value-read}
-use Rattle.ntuple_text.proofs.WordsReadBack.{field_name, mask_words, part_words, given_words, field_words}
+use Rattle.ntuple_text.proofs.WordsReadBack.{mask_words, part_words, given_words, field_words}
 
 -- a new field of the flow is taken
-judged-field : (draft : Draft) (field : Field) → is_in draft.flow field ≡ true → part_of draft field ≡ None → judged draft (key.Field field) ≡ Ok (awaiting draft (Value (key.Field field)))
-unfolding judged
-judged-field draft field within new =
-    cond-true (is_in draft.flow field) (once draft (is_some (part_of draft field)) (key.Field field)) (Err fault.NotInFlow) within ∙ once-new draft (key.Field field) (is_some (part_of draft field)) (ap is_some new)
+with_option-field : (draft : Draft) (field : Field) → has_field draft.flow field ≡ true → part_of draft field ≡ None → with_option draft (key.Field field) ≡ Ok (with_awaits draft (Value (key.Field field)))
+unfolding with_option
+with_option-field draft field within new =
+    cond-true (has_field draft.flow field) (unless_stood draft (is_some (part_of draft field)) (key.Field field)) (Err fault.NotInFlow) within ∙ unless_stood-new draft (key.Field field) (is_some (part_of draft field)) (ap is_some new)
 
 -- a part of which all bits are compared
 abbrev unmasked : ℕ → Part
@@ -32,9 +32,9 @@ unmasked value = record { value = value; skip = 0 }
 
 -- the draft after a field's value, or after its mask
 abbrev given : Draft → Field → Part → Awaits → Draft
-given draft field part next = awaiting (with_part draft field (Some part)) next
+given draft field part next = with_awaits (with_part draft field (Some part)) next
 
-value-given : (draft : Draft) (field : Field) (value : ℕ) → with_value (awaiting draft (Value (key.Field field))) field value ≡ given draft field (unmasked value) (Mark field)
+value-given : (draft : Draft) (field : Field) (value : ℕ) → with_value (with_awaits draft (Value (key.Field field))) field value ≡ given draft field (unmasked value) (Mark field)
 value-given draft SrcMac value = refl
 value-given draft DstMac value = refl
 value-given draft EtherType value = refl
@@ -71,10 +71,10 @@ given-flow draft SrcPort part next = refl
 given-flow draft DstPort part next = refl
 
 -- the value, and then the mask
-value-word : (pairs : ℕ) (draft : Draft) (field : Field) (value : ℕ) → value < form_range (form_of draft.flow field) → read_word pairs (awaiting draft (Value (key.Field field))) (value_text draft.flow field value) ≡ Ok (given draft field (unmasked value) (Mark field))
-unfolding read_word valued
+value-word : (pairs : ℕ) (draft : Draft) (field : Field) (value : ℕ) → value < form_range (form_of draft.flow field) → read_word pairs (with_awaits draft (Value (key.Field field))) (value_text draft.flow field value) ≡ Ok (given draft field (unmasked value) (Mark field))
+unfolding read_word with_value_word
 value-word pairs draft field value small =
-    let before = awaiting draft (Value (key.Field field)) in
+    let before = with_awaits draft (Value (key.Field field)) in
     ap (and_then (λ read. Ok (with_value before field read))) (value-read draft.flow field value small) ∙ ap Ok (value-given draft field value)
 
 mark-word : (pairs : ℕ) (draft : Draft) (field : Field) (part : Part) → read_word pairs (given draft field part (Mark field)) (codes "m") ≡ Ok (given draft field part (Mask field))
@@ -82,11 +82,11 @@ unfolding read_word
 mark-word pairs draft field part = refl
 
 mask-word : (pairs : ℕ) (draft : Draft) (field : Field) (value mask : ℕ) → mask < form_range (form_of draft.flow field) → read_word pairs (given draft field (unmasked value) (Mask field)) (value_text draft.flow field mask) ≡ Ok (given draft field (record { value = value; skip = mask }) OptionWord)
-unfolding read_word masked
+unfolding read_word with_mask_word
 mask-word pairs draft field value mask small =
     let before = given draft field (unmasked value) (Mask field) in
     let text = value_text draft.flow field mask in
-    ap (λ flow. and_then (λ read. Ok (with_mask before field read)) (value_of (form_of flow field) text)) (given-flow draft field (unmasked value) (Mask field)) ∙ (ap (and_then (λ read. Ok (with_mask before field read))) (value-read draft.flow field mask small) ∙ ap Ok (mask-given draft field value mask))
+    ap (λ flow. and_then (λ read. Ok (with_mask before field read)) (field_value (form_of flow field) text)) (given-flow draft field (unmasked value) (Mask field)) ∙ (ap (and_then (λ read. Ok (with_mask before field read))) (value-read draft.flow field mask small) ∙ ap Ok (mask-given draft field value mask))
 
 -- what may come after a part
 abbrev pub after_part : Field → ℕ → Awaits
@@ -97,18 +97,18 @@ mask-read pairs draft field value mask true is small =
     ap (λ skip. Ok (given draft field (record { value = value; skip = skip }) (Mark field))) (sym (eqb-true mask 0 is))
 mask-read pairs draft field value mask false is small =
     let before = given draft field (unmasked value) (Mark field) in
-    let marked = given draft field (unmasked value) (Mask field) in
+    let has_value = given draft field (unmasked value) (Mask field) in
     let after = given draft field (record { value = value; skip = mask }) OptionWord in
     let text = value_text draft.flow field mask in
-    options-step pairs before marked (codes "m") (text ∷ []) (mark-word pairs draft field (unmasked value)) ∙ options-step pairs marked after text [] (mask-word pairs draft field value mask small)
+    options-step pairs before has_value (codes "m") (text ∷ []) (mark-word pairs draft field (unmasked value)) ∙ options-step pairs has_value after text [] (mask-word pairs draft field value mask small)
 
 -- the words of a field that is given
-part-read : (pairs : ℕ) (draft : Draft) (field : Field) (part : Part) → is_ready draft.awaits ≡ true → is_in draft.flow field ≡ true → part_of draft field ≡ None → part.value < form_range (form_of draft.flow field) → part.skip < form_range (form_of draft.flow field) → read_options pairs draft (part_words draft.flow field part) ≡ Ok (awaiting (with_part draft field (Some part)) (after_part field part.skip))
+part-read : (pairs : ℕ) (draft : Draft) (field : Field) (part : Part) → is_ready draft.awaits ≡ true → has_field draft.flow field ≡ true → part_of draft field ≡ None → part.value < form_range (form_of draft.flow field) → part.skip < form_range (form_of draft.flow field) → read_options pairs draft (part_words draft.flow field part) ≡ Ok (with_awaits (with_part draft field (Some part)) (after_part field part.skip))
 part-read pairs draft field part ready within new value skip =
     let text = value_text draft.flow field part.value in
     let mask = mask_words draft.flow field part.skip in
-    let wanted = awaiting draft (Value (key.Field field)) in
-    let name : read_word pairs draft (field_name field) ≡ Ok wanted = ready-word pairs draft (field_name field) (key.Field field) ready (name-other field) (name-key field) ∙ judged-field draft field within new in
+    let wanted = with_awaits draft (Value (key.Field field)) in
+    let name : read_word pairs draft (field_name field) ≡ Ok wanted = ready-word pairs draft (field_name field) (key.Field field) ready (name-other field) (name-key field) ∙ with_option-field draft field within new in
     options-step pairs draft wanted (field_name field) (text ∷ mask) name ∙ (options-step pairs wanted (given draft field (unmasked part.value) (Mark field)) text mask (value-word pairs draft field part.value value) ∙ mask-read pairs draft field part.value part.skip (eqb part.skip 0) refl skip)
 
 -- what may come after a field that is given or not, and the draft then
@@ -117,7 +117,7 @@ after_given field None before = before
 after_given field (Some part) before = after_part field part.skip
 
 abbrev pub with_given : Draft → Field → Option Part → Draft
-with_given draft field part = awaiting (with_part draft field part) (after_given field part draft.awaits)
+with_given draft field part = with_awaits (with_part draft field part) (after_given field part draft.awaits)
 
 -- a field that is given or not
 none-given : (draft : Draft) (field : Field) → part_of draft field ≡ None → draft ≡ with_given draft field None
@@ -132,7 +132,7 @@ none-given draft L4Proto new = ap (λ part. record draft { proto = part }) new
 none-given draft SrcPort new = ap (λ part. record draft { src_port = part }) new
 none-given draft DstPort new = ap (λ part. record draft { dst_port = part }) new
 
-given-read : (pairs : ℕ) (draft : Draft) (field : Field) (part : Option Part) → is_ready draft.awaits ≡ true → is_in draft.flow field ≡ true → part_of draft field ≡ None → IsSpelledIn (Some (form_of draft.flow field)) part → read_options pairs draft (given_words draft.flow field part) ≡ Ok (with_given draft field part)
+given-read : (pairs : ℕ) (draft : Draft) (field : Field) (part : Option Part) → is_ready draft.awaits ≡ true → has_field draft.flow field ≡ true → part_of draft field ≡ None → IsSpelledIn (Some (form_of draft.flow field)) part → read_options pairs draft (given_words draft.flow field part) ≡ Ok (with_given draft field part)
 given-read pairs draft field None ready within new spelled = ap Ok (none-given draft field new)
 given-read pairs draft field (Some part) ready within new spelled = part-read pairs draft field part ready within new spelled.0 spelled.1
 
@@ -154,7 +154,7 @@ with_fields spec draft (field ∷ fields) = with_fields spec (with_given draft f
 abbrev pub AreNew : Spec → Draft → List Field → Type 0
 AreNew spec draft [] = Unit {0}
 AreNew spec draft (field ∷ fields) =
-    (draft.flow ≡ spec.flow) × (is_in draft.flow field ≡ true) × (part_of draft field ≡ None) × IsSpelledIn (Some (form_of draft.flow field)) (spec_part spec field) × AreNew spec (with_given draft field (spec_part spec field)) fields
+    (draft.flow ≡ spec.flow) × (has_field draft.flow field ≡ true) × (part_of draft field ≡ None) × IsSpelledIn (Some (form_of draft.flow field)) (spec_part spec field) × AreNew spec (with_given draft field (spec_part spec field)) fields
 
 -- the words of these fields
 pub fields-read : (pairs : ℕ) (spec : Spec) (draft : Draft) (fields : List Field) → is_ready draft.awaits ≡ true → AreNew spec draft fields → read_options pairs draft (field_words spec fields) ≡ Ok (with_fields spec draft fields)

@@ -3,7 +3,7 @@ use Rattle.std.proofs.Common.{◌≡◌, ℕ, refl, Some, None, Option}
 use Rattle.ntuple_text.specs.Drafts.{draft_of}
 use Rattle.ntuple_text.specs.SpecTexts.{fields_of}
 use Rattle.ntuple_text.specs.Spellable.{AreSpelled, IsSpelledIn}
-use Rattle.ntuple_text.specs.TableLines.{spec_with}
+use Rattle.ntuple_text.specs.TableLines.{spec_of_options}
 use Rattle.ntuple_text.specs.declared.draft.Draft.{Draft}
 use Rattle.ntuple_text.specs.declared.spec.Flow.{Flow}
 use Rattle.ntuple_text.specs.declared.spec.Flow.TheVariants.{Ether, Ip4, Ip6}
@@ -33,7 +33,7 @@ fields-new flow src dst proto class src_port dst_port action loc spelled =
 pub record IsRead (spec : Spec) (draft : Draft) : Type 0 where
   pub acts : draft.action ≡ None
   pub stands : draft.loc ≡ None
-  pub is : spec_with draft spec.action spec.loc ≡ spec
+  pub is : spec_of_options draft spec.action spec.loc ≡ spec
 
 pub fields-are : (flow : Flow) (src dst proto class src_port dst_port : Option Part) (action : TableDo) (loc : ℕ) → AreSpelled flow src dst proto class src_port dst_port → let spec : Spec = record { flow = flow; src = src; dst = dst; proto = proto; class = class; src_port = src_port; dst_port = dst_port; action = action; loc = loc } in IsRead spec (with_fields spec (draft_of flow) (fields_of flow))
 unfolding fields_of

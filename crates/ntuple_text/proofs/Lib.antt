@@ -2,6 +2,7 @@ mod TableExamples
 mod TextExamples
 mod ValueExamples
 pub mod AddressLemmas
+pub mod DigitLemmas
 pub mod EndReadBack
 pub mod FieldsReadBack
 pub mod FlowFields

@@ -2,11 +2,11 @@
 use Rattle.std.proofs.Common.{◌≡◌, ℕ, ◌≤◌, List, [], ◌∷◌, ap, refl, ◌∙◌, Some, codes, Ok}
 use Rattle.vnff_base.specs.Lines.{words_of}
 use Rattle.ntuple_text.specs.Drafts.{draft_of, read_options, with_action, with_loc}
-use Rattle.ntuple_text.specs.Keys.{flow_of}
-use Rattle.ntuple_text.specs.SpecTexts.{fields_of, flow_word, spec_text}
+use Rattle.ntuple_text.specs.Keys.{flow_of, flow_word}
+use Rattle.ntuple_text.specs.SpecTexts.{fields_of, spec_text}
 use Rattle.ntuple_text.specs.Spellable.{IsSpellable}
 use Rattle.ntuple_text.specs.Steps.{and_then}
-use Rattle.ntuple_text.specs.TableLines.{spec_with, after_line, closed, directed, flow_spec, spec_of, without_command}
+use Rattle.ntuple_text.specs.TableLines.{spec_of_options, after_line, spec_at_end, after_directive, flow_spec, spec_of, without_command}
 use Rattle.ntuple_text.specs.TableMaps.{TableMap, with_spec}
 use Rattle.ntuple_text.specs.declared.draft.Draft.{Draft}
 use Rattle.ntuple_text.specs.declared.spec.Flow.{Flow}
@@ -21,9 +21,9 @@ use Rattle.ntuple_text.proofs.SpecLines.{words_of-spec_text}
 use Rattle.ntuple_text.proofs.WordsReadBack.{field_words, end_words, option_words}
 
 -- a draft with an action and a location is a spec
-closed-read : (table : TableMap) (draft : Draft) (action : TableDo) (loc : ℕ) → closed table (with_loc (with_action draft action) loc) ≡ Ok (spec_with draft action loc)
-unfolding closed
-closed-read table draft action loc = refl
+spec_at_end-read : (table : TableMap) (draft : Draft) (action : TableDo) (loc : ℕ) → spec_at_end table (with_loc (with_action draft action) loc) ≡ Ok (spec_of_options draft action loc)
+unfolding spec_at_end
+spec_at_end-read table draft action loc = refl
 
 -- the word of a flow names it
 flow-read : (flow : Flow) → flow_of (flow_word flow) ≡ Some flow
@@ -54,7 +54,7 @@ spec-read table spec few good =
     let words = option_words spec in
     let draft = with_fields spec (draft_of spec.flow) (fields_of spec.flow) in
     let left = fields-are spec.flow spec.src spec.dst spec.proto spec.class spec.src_port spec.dst_port spec.action spec.loc good.parts in
-    ap (flow_spec table words) (flow-read spec.flow) ∙ (ap (and_then (closed table)) (options-read table.pairs spec few good) ∙ (closed-read table draft spec.action spec.loc ∙ ap Ok left.is))
+    ap (flow_spec table words) (flow-read spec.flow) ∙ (ap (and_then (spec_at_end table)) (options-read table.pairs spec few good) ∙ (spec_at_end-read table draft spec.action spec.loc ∙ ap Ok left.is))
 
 -- no command comes before `flow-type`
 no-command : (words : List (List ℕ)) → without_command (codes "flow-type" ∷ words) ≡ codes "flow-type" ∷ words
@@ -65,9 +65,9 @@ no-command (second ∷ third ∷ words) = refl
 
 -- the words of a spec's line put the spec into the table
 pub words-line : (table : TableMap) (spec : Spec) → table.pairs ≤ 16 → IsSpellable table.pairs spec → after_line table (codes "flow-type" ∷ flow_word spec.flow ∷ option_words spec) ≡ Ok (with_spec table spec)
-unfolding after_line directed
+unfolding after_line after_directive
 words-line table spec few good =
-    ap (directed table) (no-command (flow_word spec.flow ∷ option_words spec)) ∙ ap (and_then (λ read. Ok (with_spec table read))) (spec-read table spec few good)
+    ap (after_directive table) (no-command (flow_word spec.flow ∷ option_words spec)) ∙ ap (and_then (λ read. Ok (with_spec table read))) (spec-read table spec few good)
 
 -- what is written of a spec is read back
 pub line-read : (table : TableMap) (spec : Spec) → table.pairs ≤ 16 → IsSpellable table.pairs spec → after_line table (words_of (spec_text spec)) ≡ Ok (with_spec table spec)

@@ -2,19 +2,18 @@
 use Rattle.std.proofs.Common.{◌≡◌, ℕ, false, List, [], ◌∷◌, ◌++◌, ap, refl, Bool, true, ◌∙◌, Some, codes, Ok, Err, Result}
 use Rattle.std.specs.Str.{bytes_eq}
 use Rattle.std.proofs.lemmas.Bool.{cond-false, false≢true}
-use Rattle.ntuple_text.specs.Drafts.{awaiting, judged, named, once, read_next, read_options, read_word}
-use Rattle.ntuple_text.specs.Keys.{field_of, key_of}
+use Rattle.ntuple_text.specs.Drafts.{with_awaits, with_option, with_option_word, unless_stood, read_next, read_options, read_word}
+use Rattle.ntuple_text.specs.Keys.{field_name, field_of, key_of}
 use Rattle.ntuple_text.specs.Steps.{and_then}
 use Rattle.ntuple_text.specs.declared.draft.Awaits.{Awaits}
 use Rattle.ntuple_text.specs.declared.draft.Awaits.TheVariants.{OptionWord, Value, Mark, Mask}
 use Rattle.ntuple_text.specs.declared.draft.Draft.{Draft}
-use Rattle.ntuple_text.specs.declared.fault.Fault.{Fault}
-use Rattle.ntuple_text.specs.declared.fault.Fault.TheVariants as fault
+use Rattle.ntuple_text.specs.declared.error.Fault.{Fault}
+use Rattle.ntuple_text.specs.declared.error.Fault.TheVariants as fault
 use Rattle.ntuple_text.specs.declared.key.Field.{Field}
 use Rattle.ntuple_text.specs.declared.key.Field.TheVariants.{SrcMac, DstMac, EtherType, SrcIp, DstIp, Tos, TrafficClass, L4Proto, SrcPort, DstPort}
-use Rattle.ntuple_text.specs.declared.key.Key.{Key}
-use Rattle.ntuple_text.specs.declared.key.Key.TheVariants as key
-use Rattle.ntuple_text.proofs.WordsReadBack.{field_name}
+use Rattle.ntuple_text.specs.declared.key.OptionKey.{OptionKey}
+use Rattle.ntuple_text.specs.declared.key.OptionKey.TheVariants as key
 
 -- the steps after two words are those after the first, and then those after the second
 and_then-and_then : {A B C : Type 0} (next : B → Result C Fault) (first : A → Result B Fault) (r : Result A Fault) → and_then (λ a. and_then next (first a)) r ≡ and_then next (and_then first r)
@@ -40,15 +39,15 @@ is_ready (Mark field) = true
 is_ready (Mask field) = false
 
 -- where an option may begin, a word other than `m` is read as one
-ready-next : (pairs : ℕ) (draft : Draft) (word : List ℕ) (awaits : Awaits) → is_ready awaits ≡ true → bytes_eq word (codes "m") ≡ false → read_next pairs draft word awaits ≡ named draft (key_of word)
+ready-next : (pairs : ℕ) (draft : Draft) (word : List ℕ) (awaits : Awaits) → is_ready awaits ≡ true → bytes_eq word (codes "m") ≡ false → read_next pairs draft word awaits ≡ with_option_word draft (key_of word)
 ready-next pairs draft word OptionWord ready other = refl
 ready-next pairs draft word (Value about) ready other = absurd (false≢true ready)
-ready-next pairs draft word (Mark field) ready other = cond-false (bytes_eq word (codes "m")) _ (named draft (key_of word)) other
+ready-next pairs draft word (Mark field) ready other = cond-false (bytes_eq word (codes "m")) _ (with_option_word draft (key_of word)) other
 ready-next pairs draft word (Mask field) ready other = absurd (false≢true ready)
 
-pub ready-word : (pairs : ℕ) (draft : Draft) (word : List ℕ) (about : Key) → is_ready draft.awaits ≡ true → bytes_eq word (codes "m") ≡ false → key_of word ≡ Some about → read_word pairs draft word ≡ judged draft about
+pub ready-word : (pairs : ℕ) (draft : Draft) (word : List ℕ) (about : OptionKey) → is_ready draft.awaits ≡ true → bytes_eq word (codes "m") ≡ false → key_of word ≡ Some about → read_word pairs draft word ≡ with_option draft about
 unfolding read_word
-ready-word pairs draft word about ready other is = ready-next pairs draft word draft.awaits ready other ∙ ap (named draft) is
+ready-word pairs draft word about ready other is = ready-next pairs draft word draft.awaits ready other ∙ ap (with_option_word draft) is
 
 -- the word of a field names it, and isn't the one before a mask
 pub name-key : (field : Field) → key_of (field_name field) ≡ Some (key.Field field)
@@ -78,5 +77,5 @@ name-other SrcPort = refl
 name-other DstPort = refl
 
 -- an option that did not stand before
-pub once-new : (draft : Draft) (about : Key) (stood : Bool) → stood ≡ false → once draft stood about ≡ Ok (awaiting draft (Value about))
-once-new draft about stood new = cond-false stood (Err fault.Twice) (Ok (awaiting draft (Value about))) new
+pub unless_stood-new : (draft : Draft) (about : OptionKey) (stood : Bool) → stood ≡ false → unless_stood draft stood about ≡ Ok (with_awaits draft (Value about))
+unless_stood-new draft about stood new = cond-false stood (Err fault.Twice) (Ok (with_awaits draft (Value about))) new

@@ -10,14 +10,14 @@ use Rattle.std.proofs.lemmas.Int.Digits.{number_lt}
 use Rattle.std.proofs.lemmas.List.{length-replicate}
 use Rattle.std.proofs.lemmas.Result.{IfOk-at_ok}
 use Rattle.vnff_base.specs.Numbers.{number_of}
-use Rattle.ntuple_text.specs.Addresses.{address_at, all_groups, bytes_of, closed_groups, filled_address, gap_of, gapped_address, groups_of, ipv4_of, ipv6_of, is_dot, last_groups, mac_of, whole_address}
-use Rattle.ntuple_text.specs.Numerals.{hex_number, number_within, numeral_of, numeral_to}
+use Rattle.ntuple_text.specs.Addresses.{address_at, all_groups, address_of_bytes, at_most_eight_groups, address_around_gap, gap_of, address_with_gap, groups_of, ipv4_of, ipv6_of, is_dot, last_groups, mac_of, address_of_groups}
+use Rattle.ntuple_text.specs.Numerals.{hex_number, if_at_most, numeral_of, numeral_up_to}
 use Rattle.ntuple_text.specs.Pieces.{byte_within, front_of, hex_group, is_separator, piece_of, pieces_of}
 use Rattle.ntuple_text.specs.SpecTexts.{form_range}
 use Rattle.ntuple_text.specs.Spellable.{IsActionOf}
-use Rattle.ntuple_text.specs.Values.{action_of, location_of, queue_of, value_of}
-use Rattle.ntuple_text.specs.declared.fault.Fault.{Fault}
-use Rattle.ntuple_text.specs.declared.fault.Fault.TheVariants.{Address, Loc, Number, Queue as WrongQueue}
+use Rattle.ntuple_text.specs.Values.{action_value, location_value, queue_value, field_value}
+use Rattle.ntuple_text.specs.declared.error.Fault.{Fault}
+use Rattle.ntuple_text.specs.declared.error.Fault.TheVariants.{Address, Loc, Number, Queue as WrongQueue}
 use Rattle.ntuple_text.specs.declared.key.Form.{Form}
 use Rattle.ntuple_text.specs.declared.key.Form.TheVariants.{Mac, Ipv4, Ipv6, Bits8, Bits16}
 use Rattle.ntuple_text.specs.declared.piece.Spelling.{Spelling}
@@ -79,7 +79,7 @@ number-small : (base count : ℕ) (digits : List ℕ) → AllBelowBase base digi
 number-small base count digits all is = omega (arith, number_lt base digits all, ap (λ k. base ^ k) is)
 
 -- an address of so many bytes
-bytes-small : (s : Spelling) (count : ℕ) (pieces : List ℕ × List ℕ) → piece_range s ≡ 256 → IsFront s pieces → IfSome (bytes_of s count pieces) (λ n. n < 256 ^ count)
+bytes-small : (s : Spelling) (count : ℕ) (pieces : List ℕ × List ℕ) → piece_range s ≡ 256 → IsFront s pieces → IfSome (address_of_bytes s count pieces) (λ n. n < 256 ^ count)
 bytes-small s count pieces bytes all =
     let P : ℕ → Type 0 = λ n. n < 256 ^ count in
     let Below : ℕ → Type 0 = λ range. AllBelowBase range pieces.0 in
@@ -92,12 +92,12 @@ bytes-small s count pieces bytes all =
 pub mac-small : (word : List ℕ) → IfSome (mac_of word) (λ n. n < 2 ^ 48)
 unfolding mac_of
 mac-small word =
-    some-then (IsFront MacGroup) (λ n. n < 2 ^ 48) (bytes_of MacGroup 6) (pieces_of MacGroup 58 word) (pieces-small MacGroup 58 word) (λ pieces all. bytes-small MacGroup 6 pieces refl all)
+    some-then (IsFront MacGroup) (λ n. n < 2 ^ 48) (address_of_bytes MacGroup 6) (pieces_of MacGroup 58 word) (pieces-small MacGroup 58 word) (λ pieces all. bytes-small MacGroup 6 pieces refl all)
 
 pub ipv4-small : (word : List ℕ) → IfSome (ipv4_of word) (λ n. n < 2 ^ 32)
 unfolding ipv4_of
 ipv4-small word =
-    some-then (IsFront Ipv4Byte) (λ n. n < 2 ^ 32) (bytes_of Ipv4Byte 4) (pieces_of Ipv4Byte 46 word) (pieces-small Ipv4Byte 46 word) (λ pieces all. bytes-small Ipv4Byte 4 pieces refl all)
+    some-then (IsFront Ipv4Byte) (λ n. n < 2 ^ 32) (address_of_bytes Ipv4Byte 4) (pieces_of Ipv4Byte 46 word) (pieces-small Ipv4Byte 46 word) (λ pieces all. bytes-small Ipv4Byte 4 pieces refl all)
 
 -- groups of 16 bits
 last_groups-small : (piece : List ℕ) → IfSome (last_groups piece) (AllBelowBase 65536)
@@ -109,7 +109,7 @@ last_groups-small piece =
 
 all_groups-small : (pieces : List ℕ × List ℕ) → IsFront Ipv6Group pieces → IfSome (all_groups pieces) (AllBelowBase 65536)
 all_groups-small pieces all =
-    some-then (AllBelowBase 65536) (AllBelowBase 65536) (closed_groups pieces.0) (last_groups pieces.1) (last_groups-small pieces.1)
+    some-then (AllBelowBase 65536) (AllBelowBase 65536) (at_most_eight_groups pieces.0) (last_groups pieces.1) (last_groups-small pieces.1)
     (λ last small. some-if (AllBelowBase 65536) (leb (length pieces.0 + length last) 8) (Some (pieces.0 ++ last)) None (λ few. all-append 65536 pieces.0 last all small) (λ many. tt))
 
 groups-small : (text : List ℕ) → IfSome (groups_of text) (AllBelowBase 65536)
@@ -118,28 +118,28 @@ groups-small text =
     some-if (AllBelowBase 65536) (eqb (length text) 0) (Some []) (option_and_then all_groups (pieces_of Ipv6Group 58 text)) (λ none. tt)
     (λ some. some-then (IsFront Ipv6Group) (AllBelowBase 65536) all_groups (pieces_of Ipv6Group 58 text) (pieces-small Ipv6Group 58 text) all_groups-small)
 
-whole-small : (groups : List ℕ) → AllBelowBase 65536 groups → IfSome (whole_address groups) (λ n. n < 2 ^ 128)
+whole-small : (groups : List ℕ) → AllBelowBase 65536 groups → IfSome (address_of_groups groups) (λ n. n < 2 ^ 128)
 whole-small groups all =
     some-if (λ n. n < 2 ^ 128) (eqb (length groups) 8) (Some (number_from_digits 65536 groups)) None (λ eight. number-small 65536 8 groups all (eqb-true _ _ eight)) (λ other. tt)
 
-filled-small : (front back : List ℕ) → AllBelowBase 65536 front → AllBelowBase 65536 back → IfSome (filled_address front back) (λ n. n < 2 ^ 128)
+filled-small : (front back : List ℕ) → AllBelowBase 65536 front → AllBelowBase 65536 back → IfSome (address_around_gap front back) (λ n. n < 2 ^ 128)
 filled-small front back first last =
     let zeros = 8 - (length front + length back) in
     let groups = front ++ replicate zeros 0 ++ back in
-    some-if (λ n. n < 2 ^ 128) (leb (length front + length back) 7) (Some (number_from_digits 65536 groups)) None
+    some-if (λ n. n < 2 ^ 128) (leb (length front + length back + 1) 8) (Some (number_from_digits 65536 groups)) None
     (λ few. number-small 65536 8 groups (all-append 65536 (front ++ replicate zeros 0) back (all-append 65536 front (replicate zeros 0) first (all-zeros 65536 zeros (omega arith))) last) (omega (arith, leb-true _ _ few, length-append (front ++ replicate zeros 0) back, length-append front (replicate zeros 0), length-replicate {A = ℕ} zeros 0)))
     (λ many. tt)
 
-gapped-small : (before after : List ℕ) → IfSome (gapped_address before after) (λ n. n < 2 ^ 128)
-unfolding gapped_address
+gapped-small : (before after : List ℕ) → IfSome (address_with_gap before after) (λ n. n < 2 ^ 128)
+unfolding address_with_gap
 gapped-small before after =
     let P : ℕ → Type 0 = λ n. n < 2 ^ 128 in
-    some-if P (list_any is_dot before) None (option_and_then (λ front. option_and_then (filled_address front) (groups_of after)) (groups_of before)) (λ dotted. tt)
-    (λ plain. some-then (AllBelowBase 65536) P (λ front. option_and_then (filled_address front) (groups_of after)) (groups_of before) (groups-small before)
-    (λ front first. some-then (AllBelowBase 65536) P (filled_address front) (groups_of after) (groups-small after) (λ back last. filled-small front back first last)))
+    some-if P (list_any is_dot before) None (option_and_then (λ front. option_and_then (address_around_gap front) (groups_of after)) (groups_of before)) (λ dotted. tt)
+    (λ plain. some-then (AllBelowBase 65536) P (λ front. option_and_then (address_around_gap front) (groups_of after)) (groups_of before) (groups-small before)
+    (λ front first. some-then (AllBelowBase 65536) P (address_around_gap front) (groups_of after) (groups-small after) (λ back last. filled-small front back first last)))
 
 address-small : (word : List ℕ) (gap : Option ℕ) → IfSome (address_at word gap) (λ n. n < 2 ^ 128)
-address-small word None = some-then (AllBelowBase 65536) (λ n. n < 2 ^ 128) whole_address (groups_of word) (groups-small word) whole-small
+address-small word None = some-then (AllBelowBase 65536) (λ n. n < 2 ^ 128) address_of_groups (groups_of word) (groups-small word) whole-small
 address-small word (Some place) = gapped-small (take place word) (drop (place + 2) word)
 
 pub ipv6-small : (word : List ℕ) → IfSome (ipv6_of word) (λ n. n < 2 ^ 128)
@@ -147,42 +147,42 @@ unfolding ipv6_of
 ipv6-small word = address-small word (gap_of word)
 
 -- a number is below the one after its greatest
-within-small : (most : ℕ) (read : Result ℕ Fault) → IfOk (number_within most read) (λ n. n < most + 1)
+within-small : (most : ℕ) (read : Result ℕ Fault) → IfOk (if_at_most most read) (λ n. n < most + 1)
 within-small most (Err fault) = tt
 within-small most (Ok n) =
     let P : ℕ → Type 0 = λ n. n < most + 1 in
     ok-if P (leb n most) (Ok n) (Err Number) (λ few. let le : n ≤ most = leb-true n most few in omega arith) (λ many. tt)
 
-numeral-small : (most : ℕ) (word : List ℕ) → IfOk (numeral_to most word) (λ n. n < most + 1)
-unfolding numeral_to
+numeral-small : (most : ℕ) (word : List ℕ) → IfOk (numeral_up_to most word) (λ n. n < most + 1)
+unfolding numeral_up_to
 numeral-small most word = within-small most (numeral_of word)
 
 -- the value that is read of a word is in the range of its form
-pub value-in_range : (form : Form) (word : List ℕ) → IfOk (value_of form word) (λ v. v < form_range form)
-unfolding value_of
+pub value-in_range : (form : Form) (word : List ℕ) → IfOk (field_value form word) (λ v. v < form_range form)
+unfolding field_value
 value-in_range Mac word = ok-or (λ n. n < 2 ^ 48) Address (mac_of word) (mac-small word)
 value-in_range Ipv4 word = ok-or (λ n. n < 2 ^ 32) Address (ipv4_of word) (ipv4-small word)
 value-in_range Ipv6 word = ok-or (λ n. n < 2 ^ 128) Address (ipv6_of word) (ipv6-small word)
 value-in_range Bits8 word = numeral-small 255 word
 value-in_range Bits16 word = numeral-small 65535 word
 
-pub value-small : (form : Form) (word : List ℕ) (v : ℕ) → value_of form word ≡ Ok v → v < form_range form
+pub value-small : (form : Form) (word : List ℕ) (v : ℕ) → field_value form word ≡ Ok v → v < form_range form
 value-small form word v read = IfOk-at_ok (λ v. v < form_range form) read (value-in_range form word)
 
 -- and so are a queue, an action and a location
-pub queue-below : (pairs : ℕ) (word : List ℕ) → IfOk (queue_of pairs word) (IsActionOf pairs)
-unfolding queue_of
+pub queue-below : (pairs : ℕ) (word : List ℕ) → IfOk (queue_value pairs word) (IsActionOf pairs)
+unfolding queue_value
 queue-below pairs word =
     ok-next (IsActionOf pairs) (λ n. if ltb n pairs then Ok (Queue n) else Err WrongQueue) (numeral_of word)
     (λ n. ok-if (IsActionOf pairs) (ltb n pairs) (Ok (Queue n)) (Err WrongQueue) (λ below. ltb-true n pairs below) (λ above. tt))
 
-pub action-below : (pairs : ℕ) (word : List ℕ) → IfOk (action_of pairs word) (IsActionOf pairs)
-unfolding action_of
+pub action-below : (pairs : ℕ) (word : List ℕ) → IfOk (action_value pairs word) (IsActionOf pairs)
+unfolding action_value
 action-below pairs word =
-    ok-if (IsActionOf pairs) (bytes_eq word (codes "-1")) (Ok Drop) (queue_of pairs word) (λ drop. tt) (λ other. queue-below pairs word)
+    ok-if (IsActionOf pairs) (bytes_eq word (codes "-1")) (Ok Drop) (queue_value pairs word) (λ drop. tt) (λ other. queue-below pairs word)
 
-pub location-below : (word : List ℕ) → IfOk (location_of word) (λ loc. loc < 1024)
-unfolding location_of
+pub location-below : (word : List ℕ) → IfOk (location_value word) (λ loc. loc < 1024)
+unfolding location_value
 location-below word =
     let P : ℕ → Type 0 = λ loc. loc < 1024 in
     ok-next P (λ n. if ltb n 1024 then Ok n else Err Loc) (numeral_of word)

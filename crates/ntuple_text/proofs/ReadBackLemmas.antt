@@ -9,13 +9,13 @@ use Rattle.std.proofs.lemmas.Str.Parse.{digit_at}
 use Rattle.vnff_base.specs.Numbers.{number_of}
 use Rattle.vnff_base.proofs.HexLemmas.{digit_char-read}
 use Rattle.vnff_base.proofs.NumberLemmas.{number_of-decimal}
-use Rattle.ntuple_text.specs.Numerals.{hex_number, is_hexadecimal, is_octal, numeral_of, numeral_to, number_within}
+use Rattle.ntuple_text.specs.Numerals.{hex_number, is_hexadecimal, is_octal, numeral_of, numeral_up_to, if_at_most}
 use Rattle.std.specs.Int.Digits.{number_from_digits}
 use Rattle.std.specs.List.{All, AllByRecursion, flat_map, slice_split, list_all, list_any}
 use Rattle.std.specs.Option.{option_map, option_and_then}
 use Rattle.std.proofs.lemmas.List.{length-map}
 use Rattle.std.proofs.lemmas.List.Elements.{All-nil, All-cons, All-from_get_or}
-use Rattle.ntuple_text.specs.Addresses.{address_at, all_groups, bytes_of, closed_groups, groups_of, ipv4_of, ipv6_of, is_dot, last_groups, mac_of, whole_address}
+use Rattle.ntuple_text.specs.Addresses.{address_at, all_groups, address_of_bytes, at_most_eight_groups, groups_of, ipv4_of, ipv6_of, is_dot, last_groups, mac_of, address_of_groups}
 use Rattle.ntuple_text.proofs.Ipv6Lemmas.{gap-piece, gap-rest, group-no_dot, group-plain, group-read, group-some}
 use Rattle.std.specs.Str.Parse.{digits_value}
 use Rattle.std.proofs.lemmas.List.Splits.{slice_split_at, slice_split_none, length-slice_split}
@@ -23,7 +23,7 @@ use Rattle.ntuple_text.specs.Pieces.{byte_within, front_of, is_separator, piece_
 use Rattle.ntuple_text.specs.SpecTexts.{four_digits, ipv4_text, ipv6_text, mac_text, next_piece, piece_text, pieces_text, type_text}
 use Rattle.ntuple_text.specs.declared.piece.Spelling.{Spelling}
 use Rattle.ntuple_text.specs.declared.piece.Spelling.TheVariants.{MacGroup, Ipv4Byte, Ipv6Group}
-use Rattle.ntuple_text.specs.declared.fault.Fault.TheVariants.{Number}
+use Rattle.ntuple_text.specs.declared.error.Fault.TheVariants.{Number}
 
 -- a decimal number of several digits begins with no zero
 first_not_zero : (n : ℕ) → 0 < n → n < 2 ^ 64 → eqb (get_or (decimal n) 0 0) 48 ≡ false
@@ -45,10 +45,10 @@ numeral_of-decimal n small =
     let plain = plain_decimal n small in
     cond-false (is_octal (decimal n)) _ _ plain.0 ∙ (ap (λ o. ok_or o Number) (cond-false (is_hexadecimal (decimal n)) (hex_number (drop 2 (decimal n))) (number_of (decimal n)) plain.1) ∙ ap (λ o. ok_or o Number) (number_of-decimal (decimal n) n small refl))
 
-pub numeral_to-decimal : (most n : ℕ) → most < 2 ^ 64 → n ≤ most → numeral_to most (decimal n) ≡ Ok n
-unfolding numeral_to
-numeral_to-decimal most n small within =
-    ap (number_within most) (numeral_of-decimal n (omega arith)) ∙ cond-true (leb n most) (Ok n) _ (le-leb n most within)
+pub numeral_up_to-decimal : (most n : ℕ) → most < 2 ^ 64 → n ≤ most → numeral_up_to most (decimal n) ≡ Ok n
+unfolding numeral_up_to
+numeral_up_to-decimal most n small within =
+    ap (if_at_most most) (numeral_of-decimal n (omega arith)) ∙ cond-true (leb n most) (Ok n) _ (le-leb n most within)
 
 -- a digit that is written is one that is read
 four-hex : (n : ℕ) → list_all is_ascii_hexdigit (four_digits n) ≡ true
@@ -70,10 +70,10 @@ hex_number-four n small =
     let below : ltb (digits_value 16 (four_digits n)) (2 ^ 64) ≡ true = lt-ltb _ _ (omega (arith, value)) in
     cond-true _ (Some (digits_value 16 (four_digits n))) None (and_from _ _ (four-hex n) below) ∙ ap Some value
 
-pub numeral_to-type : (n : ℕ) → n < 65536 → numeral_to 65535 (type_text n) ≡ Ok n
-unfolding numeral_to numeral_of type_text
-numeral_to-type n small =
-    ap (λ o. number_within 65535 (ok_or o Number)) (hex_number-four n small) ∙ cond-true (leb n 65535) (Ok n) (Err Number) (le-leb n 65535 (omega arith))
+pub numeral_up_to-type : (n : ℕ) → n < 65536 → numeral_up_to 65535 (type_text n) ≡ Ok n
+unfolding numeral_up_to numeral_of type_text
+numeral_up_to-type n small =
+    ap (λ o. if_at_most 65535 (ok_or o Number)) (hex_number-four n small) ∙ cond-true (leb n 65535) (Ok n) (Err Number) (le-leb n 65535 (omega arith))
 
 -- a piece that is read back, and that has no separator
 record IsReadBack (s : Spelling) (separator n : ℕ) : Type 0 where
@@ -140,7 +140,7 @@ mac_of-mac_text v small =
     let rest = (v / 0x100000000 % 256) ∷ (v / 0x1000000 % 256) ∷ (v / 0x10000 % 256) ∷ (v / 0x100 % 256) ∷ (v % 256) ∷ [] in
     let byte : (n : ℕ) → IsReadBack MacGroup 58 (n % 256) = λ n. mac-piece (n % 256) (omega arith) in
     let good : AllByRecursion (IsReadBack MacGroup 58) (first ∷ rest) = (byte _, (byte _, (byte _, (byte _, (byte _, (byte _, tt)))))) in
-    ap (option_and_then (bytes_of MacGroup 6)) (read-pieces MacGroup 58 first rest good (omega arith)) ∙ (ap (option_and_then (λ last. Some (number_from_digits 256 (init_of first rest ++ last ∷ [])))) (byte v).read ∙ ap Some (mac-value v small))
+    ap (option_and_then (address_of_bytes MacGroup 6)) (read-pieces MacGroup 58 first rest good (omega arith)) ∙ (ap (option_and_then (λ last. Some (number_from_digits 256 (init_of first rest ++ last ∷ [])))) (byte v).read ∙ ap Some (mac-value v small))
 
 byte-read : (n : ℕ) → n < 256 → byte_within (number_of (decimal n)) ≡ Some n
 byte-read n small = ap byte_within (number_of-decimal (decimal n) n (omega arith) refl) ∙ cond-true (ltb n 256) (Some n) None (lt-ltb n 256 small)
@@ -164,7 +164,7 @@ ipv4_of-ipv4_text v small =
     let rest = (v / 0x10000 % 256) ∷ (v / 0x100 % 256) ∷ (v % 256) ∷ [] in
     let byte : (n : ℕ) → IsReadBack Ipv4Byte 46 (n % 256) = λ n. ipv4-piece (n % 256) (omega arith) in
     let good : AllByRecursion (IsReadBack Ipv4Byte 46) (first ∷ rest) = (byte _, (byte _, (byte _, (byte _, tt)))) in
-    ap (option_and_then (bytes_of Ipv4Byte 4)) (read-pieces Ipv4Byte 46 first rest good (omega arith)) ∙ (ap (option_and_then (λ last. Some (number_from_digits 256 (init_of first rest ++ last ∷ [])))) (byte v).read ∙ ap Some (ipv4-value v small))
+    ap (option_and_then (address_of_bytes Ipv4Byte 4)) (read-pieces Ipv4Byte 46 first rest good (omega arith)) ∙ (ap (option_and_then (λ last. Some (number_from_digits 256 (init_of first rest ++ last ∷ [])))) (byte v).read ∙ ap Some (ipv4-value v small))
 
 group-piece : (n : ℕ) → n < 65536 → IsReadBack Ipv6Group 58 n
 group-piece n small = record { read = group-read n small; plain = group-plain n small }
@@ -174,12 +174,12 @@ unfolding last_groups
 last-group n small =
     cond-false (list_any is_dot (piece_text Ipv6Group n)) _ (option_map (λ group. group ∷ []) (piece_of Ipv6Group (piece_text Ipv6Group n))) (group-no_dot n small) ∙ ap (option_map (λ group. group ∷ [])) (group-read n small)
 
-read-groups : (first : ℕ) (rest : List ℕ) → AllByRecursion (λ n. n < 65536) (first ∷ rest) → AllByRecursion (IsReadBack Ipv6Group 58) (first ∷ rest) → length rest < 8 → last_of first rest < 65536 → groups_of (pieces_text Ipv6Group 58 first rest) ≡ closed_groups (init_of first rest) (last_of first rest ∷ [])
+read-groups : (first : ℕ) (rest : List ℕ) → AllByRecursion (λ n. n < 65536) (first ∷ rest) → AllByRecursion (IsReadBack Ipv6Group 58) (first ∷ rest) → length rest < 8 → last_of first rest < 65536 → groups_of (pieces_text Ipv6Group 58 first rest) ≡ at_most_eight_groups (init_of first rest) (last_of first rest ∷ [])
 unfolding groups_of
 read-groups first rest small good few last =
     let text = pieces_text Ipv6Group 58 first rest in
     let some : eqb (length text) 0 ≡ false = ne_eqb (length text) 0 (λ e. omega (arith, group-some first small.0, length-append (piece_text Ipv6Group first) (flat_map (next_piece Ipv6Group 58) rest))) in
-    cond-false (eqb (length text) 0) (Some []) (option_and_then all_groups (pieces_of Ipv6Group 58 text)) some ∙ (ap (option_and_then all_groups) (read-pieces Ipv6Group 58 first rest good few) ∙ ap (option_and_then (closed_groups (init_of first rest))) (last-group (last_of first rest) last))
+    cond-false (eqb (length text) 0) (Some []) (option_and_then all_groups (pieces_of Ipv6Group 58 text)) some ∙ (ap (option_and_then all_groups) (read-pieces Ipv6Group 58 first rest good few) ∙ ap (option_and_then (at_most_eight_groups (init_of first rest))) (last-group (last_of first rest) last))
 
 ipv6-value : (v : ℕ) → v < 2 ^ 128 → number_from_digits 65536 ((v / 0x10000000000000000000000000000 % 65536) ∷ (v / 0x1000000000000000000000000 % 65536) ∷ (v / 0x100000000000000000000 % 65536) ∷ (v / 0x10000000000000000 % 65536) ∷ (v / 0x1000000000000 % 65536) ∷ (v / 0x100000000 % 65536) ∷ (v / 0x10000 % 65536) ∷ (v % 65536) ∷ []) ≡ v
 ipv6-value v small = omega arith
@@ -195,4 +195,4 @@ ipv6_of-ipv6_text v small =
     let all : AllByRecursion (λ n. n < 65536) (first ∷ rest) = (below _, (below _, (below _, (below _, (below _, (below _, (below _, (below _, tt)))))))) in
     let good : AllByRecursion (IsReadBack Ipv6Group 58) (first ∷ rest) = (piece _, (piece _, (piece _, (piece _, (piece _, (piece _, (piece _, (piece _, tt)))))))) in
     let none = gap-piece (piece_text Ipv6Group first) (flat_map (next_piece Ipv6Group 58) rest) (group-plain first (below _)) (gap-rest rest all.1) in
-    ap (address_at text) none ∙ (ap (option_and_then whole_address) (read-groups first rest all good (omega arith) (below v)) ∙ ap Some (ipv6-value v small))
+    ap (address_at text) none ∙ (ap (option_and_then address_of_groups) (read-groups first rest all good (omega arith) (below v)) ∙ ap Some (ipv6-value v small))

@@ -4,7 +4,7 @@ use Rattle.std.specs.Str.Lines.{lines}
 use Rattle.std.proofs.lemmas.List.Elements.{All-weaker, All-same, All-head, All-tail}
 use Rattle.vnff_base.specs.Lines.{NumberedLine, UnreadLines, unread_from, word_lines}
 use Rattle.vnff_base.proofs.TextLaws.{numbered_from-numbers, length-lines-le}
-use Rattle.ntuple_text.specs.TableLines.{after_line, after_lines, onward}
+use Rattle.ntuple_text.specs.TableLines.{after_line, after_lines, rest_or_fault}
 use Rattle.ntuple_text.specs.TableMaps.{TableMap}
 
 -- the lines of a text of at most 64 MiB have numbers of 32 bits
@@ -27,6 +27,6 @@ numbers-rest left more line cut all =
 -- a good line, and a bad one
 pub lines-good : (table next : TableMap) (left more : List NumberedLine) (line : NumberedLine) → left ≡ line ∷ more → after_line table line.words ≡ Ok next → after_lines table left ≡ after_lines next more
 lines-good table next left more line cut good =
-    ap (after_lines table) cut ∙ ap (onward (λ t. after_lines t more) line.number) good
+    ap (after_lines table) cut ∙ ap (rest_or_fault (λ t. after_lines t more) line.number) good
 
 pub ruleset read_steps = (numbers-small, numbers-first, numbers-rest, lines-good)

@@ -1,8 +1,8 @@
 -- A field of a flow is spelled like the part that stands for it.
 use Rattle.std.proofs.Common.{◌≡◌, ℕ, ◌<◌, true, not, ◌||◌, Option, Some, None, option_map, ap, refl, sym, subst, arith, if◌then◌else◌}
 use Rattle.std.proofs.lemmas.Bool.{cond-true, false≢true}
-use Rattle.ntuple_text.specs.Drafts.{skipping}
-use Rattle.ntuple_text.specs.Keys.{form_of, is_any_protocol, is_ether, is_in, is_ip4, is_ip6}
+use Rattle.ntuple_text.specs.Drafts.{with_skip}
+use Rattle.ntuple_text.specs.Keys.{form_of, is_any_protocol, is_ether, has_field, is_ip4, is_ip6}
 use Rattle.ntuple_text.specs.SpecTexts.{form_range}
 use Rattle.ntuple_text.specs.Spellable.{IsSpelledIn, address_form, class_form, port_form, proto_form}
 use Rattle.ntuple_text.specs.declared.key.Field.{Field}
@@ -57,7 +57,7 @@ port-slot Ip4 ports = absurd (false≢true ports)
 port-slot Ip6 ports = absurd (false≢true ports)
 port-slot flow ports = refl
 
-pub slot_form-is : (flow : Flow) (field : Field) → is_in flow field ≡ true → slot_form flow field ≡ Some (form_of flow field)
+pub slot_form-is : (flow : Flow) (field : Field) → has_field flow field ≡ true → slot_form flow field ≡ Some (form_of flow field)
 slot_form-is flow SrcMac has = mac-slot flow has
 slot_form-is flow DstMac has = mac-slot flow has
 slot_form-is flow EtherType has = type-slot flow has
@@ -70,7 +70,7 @@ slot_form-is flow SrcPort has = port-slot flow has
 slot_form-is flow DstPort has = port-slot flow has
 
 -- a part that is spelled in the field's form
-pub in-slot : (flow : Flow) (field : Field) (part : Option Part) → is_in flow field ≡ true → IsSpelledIn (Some (form_of flow field)) part → IsSpelledIn (slot_form flow field) part
+pub in-slot : (flow : Flow) (field : Field) (part : Option Part) → has_field flow field ≡ true → IsSpelledIn (Some (form_of flow field)) part → IsSpelledIn (slot_form flow field) part
 in-slot flow field part has spelled = let P : Option Form → Type 0 = λ form. IsSpelledIn form part in subst P (sym (slot_form-is flow field has)) spelled
 
 -- no bit of a mask is set where none is given
@@ -82,6 +82,6 @@ range-some Bits8 = omega arith
 range-some Bits16 = omega arith
 
 -- a mask that is spelled like the value
-pub skipping-spelled : (form : Form) (part : Option Part) (mask : ℕ) → mask < form_range form → IsSpelledIn (Some form) part → IsSpelledIn (Some form) (option_map (skipping mask) part)
-skipping-spelled form None mask small spelled = tt
-skipping-spelled form (Some part) mask small spelled = (spelled.0, small)
+pub with_skip-spelled : (form : Form) (part : Option Part) (mask : ℕ) → mask < form_range form → IsSpelledIn (Some form) part → IsSpelledIn (Some form) (option_map (with_skip mask) part)
+with_skip-spelled form None mask small spelled = tt
+with_skip-spelled form (Some part) mask small spelled = (spelled.0, small)

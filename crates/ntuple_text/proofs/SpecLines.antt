@@ -6,8 +6,8 @@ use Rattle.std.proofs.lemmas.Bool.{ne_eqb, cond-false, and_parts, leb-true, ltb-
 use Rattle.std.proofs.lemmas.List.Elements.{All-nil, All-cons, All-append, All-weaker, All-head, All-tail, All-get_or}
 use Rattle.vnff_base.specs.Lines.{IsWord, words_of, IsLine, is_line_feed}
 use Rattle.ntuple_text.specs.Drafts.{draft_of}
-use Rattle.ntuple_text.specs.Keys.{form_of}
-use Rattle.ntuple_text.specs.SpecTexts.{value_text, fields_of, flow_word, spec_part, spec_text}
+use Rattle.ntuple_text.specs.Keys.{field_name, flow_word, form_of}
+use Rattle.ntuple_text.specs.SpecTexts.{value_text, fields_of, spec_part, spec_text}
 use Rattle.ntuple_text.specs.Spellable.{IsActionOf, IsSpelledIn, IsSpellable}
 use Rattle.ntuple_text.specs.declared.draft.Draft.{Draft}
 use Rattle.ntuple_text.specs.declared.key.Field.{Field}
@@ -21,7 +21,7 @@ use Rattle.ntuple_text.specs.declared.spec.TableDo.TheVariants.{Drop, Queue}
 use Rattle.ntuple_text.proofs.FieldsReadBack.{with_given, AreNew}
 use Rattle.ntuple_text.proofs.FlowFields.{fields-new}
 use Rattle.ntuple_text.proofs.PlainLemmas.{IsPlain, plain-word, decimal-plain, value-plain}
-use Rattle.ntuple_text.proofs.WordsReadBack.{field_name, mask_words, given_words, field_words, action_word, end_words, option_words, blank_words, spec_text-words, words_of-blank_words}
+use Rattle.ntuple_text.proofs.WordsReadBack.{mask_words, given_words, field_words, action_word, end_words, option_words, blank_words, spec_text-words, words_of-blank_words}
 
 -- a text whose bytes are tested is plain
 high-test : (text : List ℕ) → list_all (leb 33) text ≡ true → All (λ byte. 33 ≤ byte) text

@@ -4,7 +4,7 @@ use Rattle.std.specs.Prelude.{⊤}
 use Rattle.std.specs.Option.{ok_or, option_and_then}
 use Rattle.std.proofs.lemmas.Option.{MatchOption-at_some}
 use Rattle.ntuple_text.specs.Steps.{and_then}
-use Rattle.ntuple_text.specs.declared.fault.Fault.{Fault}
+use Rattle.ntuple_text.specs.declared.error.Fault.{Fault}
 
 pub some-from : {A : Type 0} (P : A → Type 0) (read : Option A) → ((a : A) → read ≡ Some a → P a) → IfSome read P
 some-from P None keep = tt

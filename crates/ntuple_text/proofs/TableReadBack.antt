@@ -8,9 +8,10 @@ use Rattle.std.proofs.lemmas.Bool.{cond-false}
 use Rattle.std.proofs.lemmas.Option.{IfSome_then}
 use Rattle.vnff_base.specs.Lines.{words_of, is_skipped, numbered_from, word_lines}
 use Rattle.vnff_base.proofs.TextLaws.{lines-line}
-use Rattle.ntuple_text.specs.SpecTexts.{flow_word, spec_text, slot_text, table_text}
+use Rattle.ntuple_text.specs.Keys.{flow_word}
+use Rattle.ntuple_text.specs.SpecTexts.{spec_text, slot_text, table_lines}
 use Rattle.ntuple_text.specs.Spellable.{IsSpellable, IsTable}
-use Rattle.ntuple_text.specs.TableLines.{after_lines, onward, table_of}
+use Rattle.ntuple_text.specs.TableLines.{after_lines, rest_or_fault, table_of}
 use Rattle.ntuple_text.specs.TableMaps.{TableMap, with_spec, free_slots}
 use Rattle.ntuple_text.specs.declared.spec.Spec.{Spec}
 use Rattle.ntuple_text.proofs.LineReadBack.{words-line}
@@ -70,10 +71,10 @@ rest-read pairs front (Some spec ∷ rest) from place few at good =
     let later = numbered_from (from + 1) (lines more) in
     let cut : lines (text ++ 10 ∷ [] ++ more) ≡ text ∷ lines more = ap lines (append_assoc text (10 ∷ []) more) ∙ lines-line text more (IsLine-spec_text pairs spec few good.0.1) in
     let first = numbered-line from text (codes "flow-type") words (lines more) (words_of-spec_text pairs spec few good.0.1) refl in
-    ap (λ read. after_lines table (numbered_from from read)) cut ∙ (ap (after_lines table) first ∙ (ap (onward (λ next. after_lines next later) from) (words-line table spec few good.0.1) ∙ (ap (λ next. after_lines next later) (filled pairs front spec (length rest) (good.0.0 ∙ sym at)) ∙ (rest-read pairs (front ++ Some spec ∷ []) rest (from + 1) (place + 1) few (omega (arith, at, length-append front (Some spec ∷ []))) good.1 ∙ ap (λ slots. Ok (record { pairs = pairs; slots = slots })) (append_assoc front (Some spec ∷ []) rest)))))
+    ap (λ read. after_lines table (numbered_from from read)) cut ∙ (ap (after_lines table) first ∙ (ap (rest_or_fault (λ next. after_lines next later) from) (words-line table spec few good.0.1) ∙ (ap (λ next. after_lines next later) (filled pairs front spec (length rest) (good.0.0 ∙ sym at)) ∙ (rest-read pairs (front ++ Some spec ∷ []) rest (from + 1) (place + 1) few (omega (arith, at, length-append front (Some spec ∷ []))) good.1 ∙ ap (λ slots. Ok (record { pairs = pairs; slots = slots })) (append_assoc front (Some spec ∷ []) rest)))))
 
 -- the lines of all places
-pub table-read : (pairs : ℕ) (slots : List (Option Spec)) → IsTable pairs slots → table_of pairs (word_lines (table_text (record { pairs = pairs; slots = slots }))) ≡ Ok (record { pairs = pairs; slots = slots })
+pub table-read : (pairs : ℕ) (slots : List (Option Spec)) → IsTable pairs slots → table_of pairs (word_lines (table_lines (record { pairs = pairs; slots = slots }))) ≡ Ok (record { pairs = pairs; slots = slots })
 unfolding table_of
 table-read pairs slots good =
     let read = numbered_from 1 (lines (flat_map slot_text slots)) in

@@ -6,8 +6,8 @@ use Rattle.std.specs.List.{flat_map}
 use Rattle.std.specs.Option.{IfSome}
 use Rattle.std.proofs.lemmas.Fmt.{length-decimal-le}
 use Rattle.std.proofs.lemmas.Option.{IfSome_then}
-use Rattle.ntuple_text.specs.Keys.{form_of}
-use Rattle.ntuple_text.specs.SpecTexts.{four_digits, leading_zeros, piece_text, next_piece, pieces_text, mac_text, ipv4_text, ipv6_text, form_range, form_text, type_text, value_text, field_word, flow_word, fields_of, spec_part, skip_text, mask_text, part_text, given_text, field_text, queue_text, action_text, loc_text, options_text, spec_text, slot_text, longest_line}
+use Rattle.ntuple_text.specs.Keys.{field_name, flow_word, form_of}
+use Rattle.ntuple_text.specs.SpecTexts.{four_digits, leading_zeros, piece_text, next_piece, pieces_text, mac_text, ipv4_text, ipv6_text, form_range, form_text, type_text, value_text, field_word, fields_of, spec_part, skip_text, mask_text, part_text, optional_part_text, field_text, queue_words, action_words, loc_words, options_text, spec_text, slot_text, longest_line}
 use Rattle.ntuple_text.specs.Spellable.{AreSpelled, IsSpelledIn, IsActionOf, IsSpellable, IsTable}
 use Rattle.ntuple_text.specs.declared.key.Field.{Field}
 use Rattle.ntuple_text.specs.declared.key.Field.TheVariants.{SrcMac, DstMac, EtherType, SrcIp, DstIp, Tos, TrafficClass, L4Proto, SrcPort, DstPort}
@@ -123,7 +123,7 @@ length-part flow field part value skip =
     let mask = mask_text flow field part.skip in
     omega (arith, length-value flow field part.value value, length-mask flow field part.skip skip, length-append (field_word field) (text ++ mask), length-append text mask)
 
-length-given : (flow : Flow) (field : Field) (part : Option Part) → IsSpelledIn (Some (form_of flow field)) part → length (given_text flow field part) ≤ field_most flow field
+length-given : (flow : Flow) (field : Field) (part : Option Part) → IsSpelledIn (Some (form_of flow field)) part → length (optional_part_text flow field part) ≤ field_most flow field
 length-given flow field None spelled = omega arith
 length-given flow field (Some part) spelled = length-part flow field part spelled.0 spelled.1
 
@@ -154,7 +154,7 @@ fields-given flow src dst proto class src_port dst_port action loc spelled = (sp
 
 -- the word of a flow and its fields: those of TCP or UDP over IPv6 are the longest
 flow-most : (flow : Flow) → length (flow_word flow) + fields_most flow (fields_of flow) ≤ 245
-unfolding flow_word fields_of field_word
+unfolding flow_word fields_of field_word field_name
 flow-most Ether = lit≤ tt
 flow-most Ip4 = lit≤ tt
 flow-most Tcp4 = lit≤ tt
@@ -165,20 +165,20 @@ flow-most Udp6 = lit≤ tt
 
 -- ---- lines
 
-length-action : (pairs : ℕ) (action : TableDo) → pairs ≤ 16 → IsActionOf pairs action → length (action_text action) ≤ 10
-unfolding action_text queue_text
+length-action : (pairs : ℕ) (action : TableDo) → pairs ≤ 16 → IsActionOf pairs action → length (action_words action) ≤ 10
+unfolding action_words queue_words
 length-action pairs Drop few fits = omega arith
 length-action pairs (Queue queue) few fits = omega (arith, length-decimal-le 2 queue (omega arith) (omega arith) (omega arith), length-append (codes " action ") (decimal queue))
 
-length-loc : (loc : ℕ) → loc < 1024 → length (loc_text loc) ≤ 9
-unfolding loc_text
+length-loc : (loc : ℕ) → loc < 1024 → length (loc_words loc) ≤ 9
+unfolding loc_words
 length-loc loc small = omega (arith, length-decimal-le 4 loc (omega arith) (omega arith) (omega arith), length-append (codes " loc ") (decimal loc))
 
 length-line : (pairs : ℕ) (spec : Spec) → pairs ≤ 16 → IsSpellable pairs spec → length (spec_text spec ++ 10 ∷ []) ≤ longest_line
 unfolding spec_text options_text
 length-line pairs spec few good =
     let fields = flat_map (field_text spec) (fields_of spec.flow) in
-    let end = action_text spec.action ++ loc_text spec.loc in
+    let end = action_words spec.action ++ loc_words spec.loc in
     let given = fields-given spec.flow spec.src spec.dst spec.proto spec.class spec.src_port spec.dst_port spec.action spec.loc good.parts in
     omega (
       arith,
@@ -186,7 +186,7 @@ length-line pairs spec few good =
       flow-most spec.flow,
       length-action pairs spec.action few good.action,
       length-loc spec.loc good.loc,
-      length-append (action_text spec.action) (loc_text spec.loc),
+      length-append (action_words spec.action) (loc_words spec.loc),
       length-append fields end,
       length-append (flow_word spec.flow) (fields ++ end),
       length-append (codes "flow-type ") (flow_word spec.flow ++ (fields ++ end)),

@@ -2,10 +2,10 @@
 use Rattle.std.proofs.Common.{◌≡◌, Some, None, Ok, Err, codes, refl}
 use Rattle.std.specs.Fmt.{digits}
 use Rattle.vnff_base.specs.Numbers.{number_of}
-use Rattle.ntuple_text.specs.Addresses.{mac_of, ipv4_of, ipv6_of, groups_of, gapped_address, last_groups}
-use Rattle.ntuple_text.specs.Numerals.{hex_number, numeral_of, numeral_to}
+use Rattle.ntuple_text.specs.Addresses.{mac_of, ipv4_of, ipv6_of, groups_of, address_with_gap, last_groups}
+use Rattle.ntuple_text.specs.Numerals.{hex_number, numeral_of, numeral_up_to}
 use Rattle.ntuple_text.specs.Pieces.{piece_of, pieces_of}
-use Rattle.ntuple_text.specs.declared.fault.Fault.TheVariants.{Number, Octal}
+use Rattle.ntuple_text.specs.declared.error.Fault.TheVariants.{Number, Octal}
 
 padded_hex : numeral_of (codes "0X00fF") ≡ Ok 255
 unfolding numeral_of hex_number
@@ -27,8 +27,8 @@ too_large : numeral_of (codes "0x10000000000000000") ≡ Err Number
 unfolding numeral_of hex_number
 too_large = refl
 
-above_range : numeral_to 255 (codes "256") ≡ Err Number
-unfolding numeral_to numeral_of number_of digits
+above_range : numeral_up_to 255 (codes "256") ≡ Err Number
+unfolding numeral_up_to numeral_of number_of digits
 above_range = refl
 
 short_groups : mac_of (codes "2:0:0:0:0:1") ≡ Some 0x020000000001
@@ -56,7 +56,7 @@ unfolding ipv4_of pieces_of piece_of number_of digits
 above_byte = refl
 
 loopback : ipv6_of (codes "::1") ≡ Some 1
-unfolding ipv6_of gapped_address groups_of last_groups pieces_of piece_of hex_number
+unfolding ipv6_of address_with_gap groups_of last_groups pieces_of piece_of hex_number
 loopback = refl
 
 eight_groups : ipv6_of (codes "1:2:3:4:5:6:7:8") ≡ Some 0x00010002000300040005000600070008
@@ -64,25 +64,25 @@ unfolding ipv6_of groups_of last_groups pieces_of piece_of hex_number
 eight_groups = refl
 
 one_zero_group : ipv6_of (codes "1:2:3:4:5:6:7::") ≡ Some 0x00010002000300040005000600070000
-unfolding ipv6_of gapped_address groups_of last_groups pieces_of piece_of hex_number
+unfolding ipv6_of address_with_gap groups_of last_groups pieces_of piece_of hex_number
 one_zero_group = refl
 
 no_zero_group : ipv6_of (codes "1:2:3:4::5:6:7:8") ≡ None
-unfolding ipv6_of gapped_address groups_of last_groups pieces_of piece_of hex_number
+unfolding ipv6_of address_with_gap groups_of last_groups pieces_of piece_of hex_number
 no_zero_group = refl
 
 ipv4_tail : ipv6_of (codes "::ffff:1.2.3.4") ≡ Some 0xffff01020304
-unfolding ipv6_of gapped_address groups_of last_groups ipv4_of pieces_of piece_of hex_number number_of digits
+unfolding ipv6_of address_with_gap groups_of last_groups ipv4_of pieces_of piece_of hex_number number_of digits
 ipv4_tail = refl
 
 ipv4_front : ipv6_of (codes "1.2.3.4::") ≡ None
-unfolding ipv6_of gapped_address
+unfolding ipv6_of address_with_gap
 ipv4_front = refl
 
 two_gaps : ipv6_of (codes "1::2::3") ≡ None
-unfolding ipv6_of gapped_address groups_of last_groups pieces_of piece_of hex_number
+unfolding ipv6_of address_with_gap groups_of last_groups pieces_of piece_of hex_number
 two_gaps = refl
 
 three_colons : ipv6_of (codes ":::") ≡ None
-unfolding ipv6_of gapped_address groups_of last_groups pieces_of piece_of hex_number
+unfolding ipv6_of address_with_gap groups_of last_groups pieces_of piece_of hex_number
 three_colons = refl

@@ -6,7 +6,8 @@ use Rattle.std.proofs.lemmas.Grind.{flat_map-append}
 use Rattle.std.proofs.lemmas.List.Elements.{All-head, All-tail}
 use Rattle.vnff_base.specs.Lines.{IsWord, words_of}
 use Rattle.vnff_base.proofs.TextLaws.{words_of-word, words_of-word_blank}
-use Rattle.ntuple_text.specs.SpecTexts.{value_text, action_text, field_text, field_word, fields_of, flow_word, given_text, loc_text, mask_text, options_text, part_text, queue_text, skip_text, spec_part, spec_text}
+use Rattle.ntuple_text.specs.Keys.{field_name, flow_word}
+use Rattle.ntuple_text.specs.SpecTexts.{value_text, action_words, field_text, field_word, fields_of, optional_part_text, loc_words, mask_text, options_text, part_text, queue_words, skip_text, spec_part, spec_text}
 use Rattle.ntuple_text.specs.declared.key.Field.{Field}
 use Rattle.ntuple_text.specs.declared.key.Field.TheVariants.{SrcMac, DstMac, EtherType, SrcIp, DstIp, Tos, TrafficClass, L4Proto, SrcPort, DstPort}
 use Rattle.ntuple_text.specs.declared.spec.Flow.{Flow}
@@ -14,19 +15,6 @@ use Rattle.ntuple_text.specs.declared.spec.Part.{Part}
 use Rattle.ntuple_text.specs.declared.spec.Spec.{Spec}
 use Rattle.ntuple_text.specs.declared.spec.TableDo.{TableDo}
 use Rattle.ntuple_text.specs.declared.spec.TableDo.TheVariants.{Drop, Queue}
-
--- the word that names a field
-unfoldable pub field_name : Field → List ℕ
-field_name SrcMac = codes "src"
-field_name DstMac = codes "dst"
-field_name EtherType = codes "proto"
-field_name SrcIp = codes "src-ip"
-field_name DstIp = codes "dst-ip"
-field_name Tos = codes "tos"
-field_name TrafficClass = codes "tclass"
-field_name L4Proto = codes "l4proto"
-field_name SrcPort = codes "src-port"
-field_name DstPort = codes "dst-port"
 
 -- the words of a mask, where it skips a bit
 abbrev pub mask_words : Flow → Field → ℕ → List (List ℕ)
@@ -100,9 +88,9 @@ part_text-words flow field part =
     let value = value_text flow field part.value in
     ap (λ word. word ++ (value ++ mask_text flow field part.skip)) (field_word-name field) ∙ (between-blanks (field_name field) (value ++ mask_text flow field part.skip) ∙ ap (λ text. 32 ∷ (field_name field ++ 32 ∷ (value ++ text))) (mask_text-words flow field part.skip))
 
-given_text-words : (flow : Flow) (field : Field) (part : Option Part) → given_text flow field part ≡ blank_words (given_words flow field part)
-given_text-words flow field None = refl
-given_text-words flow field (Some part) = part_text-words flow field part
+optional_part_text-words : (flow : Flow) (field : Field) (part : Option Part) → optional_part_text flow field part ≡ blank_words (given_words flow field part)
+optional_part_text-words flow field None = refl
+optional_part_text-words flow field (Some part) = part_text-words flow field part
 
 -- the text of all fields, of what comes after them, and of the line
 field_text-words : (spec : Spec) (fields : List Field) → flat_map (field_text spec) fields ≡ blank_words (field_words spec fields)
@@ -110,10 +98,10 @@ unfolding field_text
 field_text-words spec [] = refl
 field_text-words spec (field ∷ fields) =
     let words = given_words spec.flow field (spec_part spec field) in
-    ap (λ text. text ++ flat_map (field_text spec) fields) (given_text-words spec.flow field (spec_part spec field)) ∙ (ap (λ text. blank_words words ++ text) (field_text-words spec fields) ∙ sym (flat_map-append after_blank words (field_words spec fields)))
+    ap (λ text. text ++ flat_map (field_text spec) fields) (optional_part_text-words spec.flow field (spec_part spec field)) ∙ (ap (λ text. blank_words words ++ text) (field_text-words spec fields) ∙ sym (flat_map-append after_blank words (field_words spec fields)))
 
-end_text-words : (action : TableDo) (loc : ℕ) → action_text action ++ loc_text loc ≡ blank_words (end_words action loc)
-unfolding action_text queue_text loc_text
+end_text-words : (action : TableDo) (loc : ℕ) → action_words action ++ loc_words loc ≡ blank_words (end_words action loc)
+unfolding action_words queue_words loc_words
 end_text-words Drop loc = ap (λ text. codes " action -1 loc " ++ text) (sym (append-nil (decimal loc)))
 end_text-words (Queue queue) loc =
     ap (λ text. codes " action " ++ (decimal queue ++ (codes " loc " ++ text))) (sym (append-nil (decimal loc)))
@@ -123,7 +111,7 @@ unfolding options_text
 options_text-words spec =
     let fields = field_words spec (fields_of spec.flow) in
     let end = end_words spec.action spec.loc in
-    ap (λ text. text ++ (action_text spec.action ++ loc_text spec.loc)) (field_text-words spec (fields_of spec.flow)) ∙ (ap (λ text. blank_words fields ++ text) (end_text-words spec.action spec.loc) ∙ sym (flat_map-append after_blank fields end))
+    ap (λ text. text ++ (action_words spec.action ++ loc_words spec.loc)) (field_text-words spec (fields_of spec.flow)) ∙ (ap (λ text. blank_words fields ++ text) (end_text-words spec.action spec.loc) ∙ sym (flat_map-append after_blank fields end))
 
 pub spec_text-words : (spec : Spec) → spec_text spec ≡ codes "flow-type" ++ blank_words (flow_word spec.flow ∷ option_words spec)
 unfolding spec_text

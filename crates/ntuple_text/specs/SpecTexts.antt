@@ -1,12 +1,15 @@
 -- The canonical line of a spec, and the text of a table. This project's own, in the words of ethtool(8).
-use Rattle.std.specs.Prelude.{ℕ, ◌/◌, ◌%◌, ◌^◌, ◌==◌, nat_lt, if◌then◌else◌, List, [], ◌∷◌, ◌++◌, codes, drop, Option, Some, None}
+use Rattle.std.specs.Prelude.{ℕ, zero, suc, ◌/◌, ◌%◌, ◌^◌, ◌==◌, nat_lt, if◌then◌else◌}
+use Rattle.std.specs.Prelude.{List, [], ◌∷◌, ◌++◌, codes, drop, Option, Some, None}
 use Rattle.std.specs.Char.{digit_char}
 use Rattle.std.specs.Fmt.{decimal}
 use Rattle.std.specs.List.{flat_map}
-use Rattle.ntuple_text.specs.Keys.{form_of}
+use Rattle.ntuple_text.specs.Keys.{field_name, flow_word, form_of}
+use Rattle.ntuple_text.specs.Pieces.{byte_base, colon, dot, group_base}
 use Rattle.ntuple_text.specs.TableMaps.{TableMap}
 use Rattle.ntuple_text.specs.declared.key.Field.{Field}
-use Rattle.ntuple_text.specs.declared.key.Field.TheVariants.{SrcMac, DstMac, EtherType, SrcIp, DstIp, Tos, TrafficClass, L4Proto, SrcPort, DstPort}
+use Rattle.ntuple_text.specs.declared.key.Field.TheVariants.{SrcMac, DstMac, EtherType, SrcIp, DstIp}
+use Rattle.ntuple_text.specs.declared.key.Field.TheVariants.{Tos, TrafficClass, L4Proto, SrcPort, DstPort}
 use Rattle.ntuple_text.specs.declared.key.Form.{Form}
 use Rattle.ntuple_text.specs.declared.key.Form.TheVariants.{Mac, Ipv4, Ipv6, Bits8, Bits16}
 use Rattle.ntuple_text.specs.declared.piece.Spelling.{Spelling}
@@ -20,7 +23,8 @@ use Rattle.ntuple_text.specs.declared.spec.TableDo.TheVariants.{Drop, Queue}
 
 -- the four hexadecimal digits of 16 bits, in lower case
 abbrev pub four_digits : ℕ → List ℕ
-four_digits n = digit_char (n / 4096 % 16) ∷ digit_char (n / 256 % 16) ∷ digit_char (n / 16 % 16) ∷ digit_char (n % 16) ∷ []
+four_digits n =
+    digit_char (n / 4096 % 16) ∷ digit_char (n / 256 % 16) ∷ digit_char (n / 16 % 16) ∷ digit_char (n % 16) ∷ []
 
 -- how many of the four digits are leading zeros; the last digit always counts
 abbrev pub leading_zeros : ℕ → ℕ
@@ -37,24 +41,32 @@ piece_text Ipv6Group n = drop (leading_zeros n) (four_digits n)
 abbrev pub next_piece : Spelling → ℕ → ℕ → List ℕ
 next_piece spelling separator n = separator ∷ piece_text spelling n
 
--- pieces with separators between them
+-- a first piece and the others, with separators between them
 abbrev pub pieces_text : Spelling → ℕ → ℕ → List ℕ → List ℕ
-pieces_text spelling separator first rest = piece_text spelling first ++ flat_map (next_piece spelling separator) rest
+pieces_text spelling separator first rest =
+    piece_text spelling first ++ flat_map (next_piece spelling separator) rest
+
+-- pieces with separators between them
+abbrev pub joined_text : Spelling → ℕ → List ℕ → List ℕ
+joined_text spelling separator [] = []
+joined_text spelling separator (first ∷ rest) = pieces_text spelling separator first rest
+
+-- the digits of a number in a base, from a place down to the last, the highest first
+abbrev pub low_digits : ℕ → ℕ → ℕ → List ℕ
+low_digits base zero number = number % base ∷ []
+low_digits base (suc place) number = number / base ^ suc place % base ∷ low_digits base place number
 
 -- the six groups of a MAC address
 unfoldable pub mac_text : ℕ → List ℕ
-mac_text address =
-    pieces_text MacGroup 58 (address / 0x10000000000 % 256) ((address / 0x100000000 % 256) ∷ (address / 0x1000000 % 256) ∷ (address / 0x10000 % 256) ∷ (address / 0x100 % 256) ∷ (address % 256) ∷ [])
+mac_text address = joined_text MacGroup colon (low_digits byte_base 5 address)
 
 -- the four bytes of an IPv4 address
 unfoldable pub ipv4_text : ℕ → List ℕ
-ipv4_text address =
-    pieces_text Ipv4Byte 46 (address / 0x1000000 % 256) ((address / 0x10000 % 256) ∷ (address / 0x100 % 256) ∷ (address % 256) ∷ [])
+ipv4_text address = joined_text Ipv4Byte dot (low_digits byte_base 3 address)
 
 -- the eight groups of an IPv6 address, without `::`
 unfoldable pub ipv6_text : ℕ → List ℕ
-ipv6_text address =
-    pieces_text Ipv6Group 58 (address / 0x10000000000000000000000000000 % 65536) ((address / 0x1000000000000000000000000 % 65536) ∷ (address / 0x100000000000000000000 % 65536) ∷ (address / 0x10000000000000000 % 65536) ∷ (address / 0x1000000000000 % 65536) ∷ (address / 0x100000000 % 65536) ∷ (address / 0x10000 % 65536) ∷ (address % 65536) ∷ [])
+ipv6_text address = joined_text Ipv6Group colon (low_digits group_base 7 address)
 
 -- one above the greatest value of a form
 abbrev pub form_range : Form → ℕ
@@ -74,7 +86,7 @@ form_text Bits16 value = decimal value
 
 -- the Ethernet type: `0x` and four digits
 unfoldable pub type_text : ℕ → List ℕ
-type_text value = 48 ∷ 120 ∷ four_digits value
+type_text value = codes "0x" ++ four_digits value
 
 -- the value of a field
 unfoldable pub value_text : Flow → Field → ℕ → List ℕ
@@ -91,26 +103,7 @@ value_text flow DstPort value = decimal value
 
 -- the word of a field, between blanks
 unfoldable pub field_word : Field → List ℕ
-field_word SrcMac = codes " src "
-field_word DstMac = codes " dst "
-field_word EtherType = codes " proto "
-field_word SrcIp = codes " src-ip "
-field_word DstIp = codes " dst-ip "
-field_word Tos = codes " tos "
-field_word TrafficClass = codes " tclass "
-field_word L4Proto = codes " l4proto "
-field_word SrcPort = codes " src-port "
-field_word DstPort = codes " dst-port "
-
--- the word of a flow
-unfoldable pub flow_word : Flow → List ℕ
-flow_word Ether = codes "ether"
-flow_word Ip4 = codes "ip4"
-flow_word Tcp4 = codes "tcp4"
-flow_word Udp4 = codes "udp4"
-flow_word Ip6 = codes "ip6"
-flow_word Tcp6 = codes "tcp6"
-flow_word Udp6 = codes "udp6"
+field_word field = codes " " ++ (field_name field ++ codes " ")
 
 -- the fields of a flow, in the order in which they are written
 unfoldable pub fields_of : Flow → List Field
@@ -145,46 +138,54 @@ mask_text flow field mask = if mask == 0 then [] else skip_text flow field mask
 
 -- a field that is given: its word, its value and its mask
 unfoldable pub part_text : Flow → Field → Part → List ℕ
-part_text flow field part = field_word field ++ (value_text flow field part.value ++ mask_text flow field part.skip)
+part_text flow field part =
+    field_word field ++ (value_text flow field part.value ++ mask_text flow field part.skip)
 
-abbrev pub given_text : Flow → Field → Option Part → List ℕ
-given_text flow field None = []
-given_text flow field (Some part) = part_text flow field part
+-- a field, where it is given
+abbrev pub optional_part_text : Flow → Field → Option Part → List ℕ
+optional_part_text flow field None = []
+optional_part_text flow field (Some part) = part_text flow field part
 
+-- a field of a spec, where it is given
 unfoldable pub field_text : Spec → Field → List ℕ
-field_text spec field = given_text spec.flow field (spec_part spec field)
+field_text spec field = optional_part_text spec.flow field (spec_part spec field)
 
 -- a queue as an action
-unfoldable pub queue_text : ℕ → List ℕ
-queue_text queue = codes " action " ++ decimal queue
+unfoldable pub queue_words : ℕ → List ℕ
+queue_words queue = codes " action " ++ decimal queue
 
 -- the action: `-1` for a drop, or the number of the queue
-unfoldable pub action_text : TableDo → List ℕ
-action_text Drop = codes " action -1"
-action_text (Queue queue) = queue_text queue
+unfoldable pub action_words : TableDo → List ℕ
+action_words Drop = codes " action -1"
+action_words (Queue queue) = queue_words queue
 
 -- the location
-unfoldable pub loc_text : ℕ → List ℕ
-loc_text loc = codes " loc " ++ decimal loc
+unfoldable pub loc_words : ℕ → List ℕ
+loc_words loc = codes " loc " ++ decimal loc
 
 -- the words of a line past its flow
 unfoldable pub options_text : Spec → List ℕ
-options_text spec = flat_map (field_text spec) (fields_of spec.flow) ++ (action_text spec.action ++ loc_text spec.loc)
+options_text spec =
+    flat_map (field_text spec) (fields_of spec.flow) ++ (action_words spec.action ++ loc_words spec.loc)
 
 -- the canonical line, without its line feed
 unfoldable pub spec_text : Spec → List ℕ
 spec_text spec = codes "flow-type " ++ (flow_word spec.flow ++ options_text spec)
 
--- the bytes of the longest line that a table can have, with its line feed: one of TCP or UDP over IPv6 with a mask at each
--- field
+-- the bytes of the longest line that a table can have, with its line feed: one of TCP or UDP over IPv6 with a mask at
+-- each field
 abbrev pub longest_line : ℕ
 longest_line = 275
+
+-- what ends a line
+abbrev pub line_feed : List ℕ
+line_feed = 10 ∷ []
 
 -- the line of what stands at a location
 unfoldable pub slot_text : Option Spec → List ℕ
 slot_text None = []
-slot_text (Some spec) = spec_text spec ++ 10 ∷ []
+slot_text (Some spec) = spec_text spec ++ line_feed
 
 -- the lines of a table, by rising location
-abbrev pub table_text : TableMap → List ℕ
-table_text table = flat_map slot_text table.slots
+abbrev pub table_lines : TableMap → List ℕ
+table_lines table = flat_map slot_text table.slots

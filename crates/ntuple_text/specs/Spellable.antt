@@ -1,7 +1,9 @@
 -- What the lines of a table can spell, and so what every table that was read holds. This project's own.
-use Rattle.std.specs.Prelude.{◌≡◌, ℕ, ◌<◌, ◌≤◌, List, length, slice_index_or, Option, Some, None, IfSome, if◌then◌else◌, ⊤}
+use Rattle.std.specs.Prelude.{◌≡◌, ℕ, ◌<◌, ◌≤◌, if◌then◌else◌, ⊤}
+use Rattle.std.specs.Prelude.{List, length, slice_index_or, Option, Some, None, IfSome}
 use Rattle.ntuple_text.specs.Keys.{is_ether, is_ip6}
 use Rattle.ntuple_text.specs.SpecTexts.{form_range}
+use Rattle.ntuple_text.specs.TableMaps.{location_count, pair_limit}
 use Rattle.ntuple_text.specs.declared.key.Form.{Form}
 use Rattle.ntuple_text.specs.declared.key.Form.TheVariants.{Mac, Ipv4, Ipv6, Bits8, Bits16}
 use Rattle.ntuple_text.specs.declared.spec.Flow.{Flow}
@@ -41,7 +43,8 @@ IsSpelledIn None (Some part) = ⊥
 IsSpelledIn (Some form) (Some part) = (part.value < form_range form) × (part.skip < form_range form)
 
 -- the parts of a spec, or of the options of a line so far, are such as the flow's fields spell
-pub record AreSpelled (flow : Flow) (source destination protocol service source_port destination_port : Option Part) : Type 0 where
+pub record AreSpelled (flow : Flow)
+    (source destination protocol service source_port destination_port : Option Part) : Type 0 where
   pub src : IsSpelledIn (Some (address_form flow)) source
   pub dst : IsSpelledIn (Some (address_form flow)) destination
   pub proto : IsSpelledIn (proto_form flow) protocol
@@ -58,12 +61,13 @@ IsActionOf pairs (Queue queue) = queue < pairs
 pub record IsSpellable (pairs : ℕ) (spec : Spec) : Type 0 where
   pub parts : AreSpelled spec.flow spec.src spec.dst spec.proto spec.class spec.src_port spec.dst_port
   pub action : IsActionOf pairs spec.action
-  pub loc : spec.loc < 1024
+  pub loc : spec.loc < location_count
 
--- every table: it is for 1 to 16 queue pairs and has 1,024 locations, and what stands at one is a spec of this location that
--- a line can spell
+-- every table: it is for one queue pair or more, up to the limit, and what stands at one of its locations is a spec of
+-- this location that a line can spell
 pub record IsTable (pairs : ℕ) (slots : List (Option Spec)) : Type 0 where
-  pub size : length slots ≡ 1024
+  pub size : length slots ≡ location_count
   pub some : 1 ≤ pairs
-  pub few : pairs ≤ 16
-  pub spelled : (loc : ℕ) → IfSome (slice_index_or slots loc None) (λ spec. (spec.loc ≡ loc) × IsSpellable pairs spec)
+  pub few : pairs ≤ pair_limit
+  pub spelled : (loc : ℕ) →
+      IfSome (slice_index_or slots loc None) (λ spec. (spec.loc ≡ loc) × IsSpellable pairs spec)

@@ -1,6 +1,15 @@
--- A table of specs, as contracts see it: a finite map from the locations 0 to 1023. This project's own.
-use Rattle.std.specs.Prelude.{ℕ, ◌+◌, List, [], ◌∷◌, replicate, Option, Some, None, is_some, slice_index_or, slice_set, count_by, if◌then◌else◌}
+-- A table of specs, as contracts see it: a finite map from the locations. This project's own.
+use Rattle.std.specs.Prelude.{ℕ, ◌+◌, if◌then◌else◌, Option, Some, None, is_some}
+use Rattle.std.specs.Prelude.{List, [], ◌∷◌, replicate, slice_index_or, slice_set, count_by}
 use Rattle.ntuple_text.specs.declared.spec.Spec.{Spec}
+
+-- how many locations a table has: they are those from 0 to 1023
+abbrev pub location_count : ℕ
+location_count = 1024
+
+-- the most queue pairs that a table is for
+abbrev pub pair_limit : ℕ
+pair_limit = 16
 
 -- the queue pairs that the table's queues are below, and what stands at each of its locations, from 0 up
 pub record TableMap : Type 0 where
@@ -13,9 +22,9 @@ free_slots count = replicate count None
 
 -- a table without a spec
 abbrev pub empty_table : ℕ → TableMap
-empty_table pairs = record { pairs = pairs; slots = free_slots 1024 }
+empty_table pairs = record { pairs = pairs; slots = free_slots location_count }
 
--- the spec at a location; none stands at a location above 1023
+-- the spec at a location; none stands above the last one
 abbrev pub spec_at : TableMap → ℕ → Option Spec
 spec_at table loc = slice_index_or table.slots loc None
 

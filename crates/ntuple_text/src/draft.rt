@@ -1,14 +1,16 @@
 //! The options of a line, read word by word.
 ghost use Rattle.std.specs.Prelude.{◌≡◌, is_some, option_map};
 ghost use Rattle.vnff_base.specs.Lines.{words_of};
-ghost use Rattle.ntuple_text.specs.Drafts.{awaiting, draft_of, judged, marked, masked, named, once, part_of, read_options, read_word, skipping, valued, with_action, with_part};
+ghost use Rattle.ntuple_text.specs.Drafts.{draft_of, part_of, read_options, read_word, unless_stood, with_action};
+ghost use Rattle.ntuple_text.specs.Drafts.{with_awaits, with_mark_word, with_mask_word, with_option, with_option_word};
+ghost use Rattle.ntuple_text.specs.Drafts.{with_part, with_skip, with_value_word};
 ghost use Rattle.ntuple_text.specs.Keys.{key_of};
-ghost use Rattle.ntuple_text.specs.TableLines.{spec_with};
+ghost use Rattle.ntuple_text.specs.TableLines.{spec_of_options};
 
-use crate::fault::Fault;
-use crate::key::{Field, Key, key_named};
+use crate::error::Fault;
+use crate::key::{Field, OptionKey, key_of};
 use crate::spec::{Flow, Part, Spec, TableDo};
-use crate::value::{action, location, queue, value};
+use crate::value::{action_value, field_value, location_value, queue_value};
 use vnff_base::first_word;
 
 /// What the next word of a line may be.
@@ -17,7 +19,7 @@ pub(crate) enum Awaits {
     /// The word of an option.
     OptionWord,
     /// The value of an option.
-    Value(Key),
+    Value(OptionKey),
     /// `m` before the field's mask, or the word of an option.
     Mark(Field),
     /// The field's mask.
@@ -60,7 +62,7 @@ impl Draft {
 
     /// The spec of these options.
     pub(crate) fn spec(self, action: TableDo, loc: u16) -> Spec
-        ensures { result ≡ spec_with self action loc }
+        ensures { result ≡ spec_of_options self action loc }
     {
         Spec {
             flow: self.flow,
@@ -76,13 +78,13 @@ impl Draft {
     }
 
     /// The options of a line's words, after those of the draft, up to the first fault.
-    pub(crate) fn options(self, line: &[u8], pairs: u8) -> Result<Draft, Fault>
+    pub(crate) fn read_options(self, line: &[u8], pairs: u8) -> Result<Draft, Fault>
         ensures { result ≡ read_options pairs self (words_of line.now) }
     {
         let mut draft = self;
         let mut rest = line;
         while let Some((word, more)) = first_word(rest) {
-            draft = draft.word(word, pairs)?;
+            draft = draft.read_word(word, pairs)?;
             rest = more;
         }
         Ok(draft)
@@ -90,92 +92,92 @@ impl Draft {
 
     // One more word.
     #[tactic(auto, unfolding(crate::specs::Drafts::read_word))]
-    fn word(self, word: &[u8], pairs: u8) -> Result<Draft, Fault>
+    fn read_word(self, word: &[u8], pairs: u8) -> Result<Draft, Fault>
         ensures { result ≡ read_word pairs self word.now }
     {
         match self.awaits {
-            Awaits::OptionWord => self.named(word),
-            Awaits::Value(key) => self.valued(key, word, pairs),
-            Awaits::Mark(field) => self.marked(field, word),
-            Awaits::Mask(field) => self.masked(field, word),
+            Awaits::OptionWord => self.with_option_word(word),
+            Awaits::Value(key) => self.with_value_word(key, word, pairs),
+            Awaits::Mark(field) => self.with_mark_word(field, word),
+            Awaits::Mask(field) => self.with_mask_word(field, word),
         }
     }
 
-    fn marked(self, field: Field, word: &[u8]) -> Result<Draft, Fault>
-        ensures { result ≡ marked self field word.now }
+    fn with_mark_word(self, field: Field, word: &[u8]) -> Result<Draft, Fault>
+        ensures { result ≡ with_mark_word self field word.now }
     {
         if word == b"m".as_slice() {
-            Ok(self.awaiting(Awaits::Mask(field)))
+            Ok(self.with_awaits(Awaits::Mask(field)))
         } else {
-            self.named(word)
+            self.with_option_word(word)
         }
     }
 
-    fn named(self, word: &[u8]) -> Result<Draft, Fault>
-        ensures { result ≡ named self (key_of word.now) }
+    fn with_option_word(self, word: &[u8]) -> Result<Draft, Fault>
+        ensures { result ≡ with_option_word self (key_of word.now) }
     {
-        match key_named(word) {
-            Some(key) => self.judged(key),
+        match key_of(word) {
+            Some(key) => self.with_option(key),
             None => Err(Fault::Word),
         }
     }
 
-    #[tactic(auto, unfolding(crate::specs::Drafts::judged))]
-    fn judged(self, key: Key) -> Result<Draft, Fault>
-        ensures { result ≡ judged self key }
+    #[tactic(auto, unfolding(crate::specs::Drafts::with_option))]
+    fn with_option(self, key: OptionKey) -> Result<Draft, Fault>
+        ensures { result ≡ with_option self key }
     {
         match key {
-            Key::Field(field) => {
-                if !self.flow.has(field) {
+            OptionKey::Field(field) => {
+                if !self.flow.has_field(field) {
                     return Err(Fault::NotInFlow);
                 }
-                self.once(self.part(field).is_some(), key)
+                self.unless_stood(self.part_of(field).is_some(), key)
             }
-            Key::Action | Key::Queue => self.once(self.action.is_some(), key),
-            Key::Loc => self.once(self.loc.is_some(), key),
+            OptionKey::Action | OptionKey::Queue => self.unless_stood(self.action.is_some(), key),
+            OptionKey::Loc => self.unless_stood(self.loc.is_some(), key),
         }
     }
 
-    fn once(self, stood: bool, key: Key) -> Result<Draft, Fault>
-        ensures { result ≡ once self stood key }
+    fn unless_stood(self, stood: bool, key: OptionKey) -> Result<Draft, Fault>
+        ensures { result ≡ unless_stood self stood key }
     {
         if stood {
             Err(Fault::Twice)
         } else {
-            Ok(self.awaiting(Awaits::Value(key)))
+            Ok(self.with_awaits(Awaits::Value(key)))
         }
     }
 
-    #[tactic(auto, unfolding(crate::specs::Drafts::valued))]
-    fn valued(self, key: Key, word: &[u8], pairs: u8) -> Result<Draft, Fault>
-        ensures { result ≡ valued pairs self key word.now }
+    #[tactic(auto, unfolding(crate::specs::Drafts::with_value_word))]
+    fn with_value_word(self, key: OptionKey, word: &[u8], pairs: u8) -> Result<Draft, Fault>
+        ensures { result ≡ with_value_word pairs self key word.now }
     {
         match key {
-            Key::Field(field) => {
-                let value = value(word, self.flow.form(field))?;
+            OptionKey::Field(field) => {
+                let value = field_value(word, self.flow.form(field))?;
                 let part = Part { value, skip: 0 };
                 Ok(
                     self.with_part(field, Some(part))
-                        .awaiting(Awaits::Mark(field)),
+                        .with_awaits(Awaits::Mark(field)),
                 )
             }
-            Key::Action => Ok(self.with_action(action(word, pairs)?)),
-            Key::Queue => Ok(self.with_action(queue(word, pairs)?)),
-            Key::Loc => Ok(Draft {
-                loc: Some(location(word)?),
+            OptionKey::Action => Ok(self.with_action(action_value(word, pairs)?)),
+            OptionKey::Queue => Ok(self.with_action(queue_value(word, pairs)?)),
+            OptionKey::Loc => Ok(Draft {
+                loc: Some(location_value(word)?),
                 awaits: Awaits::OptionWord,
                 ..self
             }),
         }
     }
 
-    #[tactic(auto, unfolding(crate::specs::Drafts::masked))]
-    fn masked(self, field: Field, word: &[u8]) -> Result<Draft, Fault>
-        ensures { result ≡ masked self field word.now }
+    #[tactic(auto, unfolding(crate::specs::Drafts::with_mask_word))]
+    fn with_mask_word(self, field: Field, word: &[u8]) -> Result<Draft, Fault>
+        ensures { result ≡ with_mask_word self field word.now }
     {
-        let mask = value(word, self.flow.form(field))?;
-        let part = with_skip(self.part(field), mask);
-        Ok(self.with_part(field, part).awaiting(Awaits::OptionWord))
+        let mask = field_value(word, self.flow.form(field))?;
+        let part = with_skip(self.part_of(field), mask);
+        Ok(self.with_part(field, part).with_awaits(Awaits::OptionWord))
     }
 
     fn with_action(self, action: TableDo) -> Draft
@@ -188,14 +190,14 @@ impl Draft {
         }
     }
 
-    fn awaiting(self, awaits: Awaits) -> Draft
-        ensures { result ≡ awaiting self awaits }
+    fn with_awaits(self, awaits: Awaits) -> Draft
+        ensures { result ≡ with_awaits self awaits }
     {
         Draft { awaits, ..self }
     }
 
     // The part that stands for a field.
-    fn part(self, field: Field) -> Option<Part>
+    fn part_of(self, field: Field) -> Option<Part>
         ensures { result ≡ part_of self field }
     {
         match field {
@@ -236,7 +238,7 @@ impl Draft {
 
 // The part with these bits skipped.
 fn with_skip(part: Option<Part>, skip: u128) -> Option<Part>
-    ensures { result ≡ option_map (skipping skip) part }
+    ensures { result ≡ option_map (with_skip skip) part }
 {
     match part {
         Some(part) => Some(Part { skip, ..part }),

@@ -1,6 +1,6 @@
 //! The words that name an option of a line, and the flows.
 ghost use Rattle.std.specs.Prelude.{◌≡◌};
-ghost use Rattle.ntuple_text.specs.Keys.{field_of, flow_of, form_of, is_in, key_of};
+ghost use Rattle.ntuple_text.specs.Keys.{field_of, flow_of, form_of, has_field, key_of};
 
 use crate::spec::Flow;
 
@@ -31,7 +31,7 @@ pub enum Field {
 
 /// What an option is about.
 #[derive(Clone, Copy, Debug, PartialEq, Eq)]
-pub enum Key {
+pub enum OptionKey {
     /// A field of the frame.
     Field(Field),
     /// `action`
@@ -58,8 +58,8 @@ pub enum Form {
 }
 
 /// The flow that a word names.
-#[tactic(auto, unfolding(crate::specs::Keys::flow_of))]
-pub(crate) fn flow_named(word: &[u8]) -> Option<Flow>
+#[tactic(auto, unfolding(crate::specs::Keys::flow_of, crate::specs::Keys::flow_word))]
+pub(crate) fn flow_of(word: &[u8]) -> Option<Flow>
     ensures { result ≡ flow_of word.now }
 {
     if word == b"ether".as_slice() {
@@ -83,26 +83,26 @@ pub(crate) fn flow_named(word: &[u8]) -> Option<Flow>
 
 /// What the option that a word names is about.
 #[tactic(auto, unfolding(crate::specs::Keys::key_of))]
-pub(crate) fn key_named(word: &[u8]) -> Option<Key>
+pub(crate) fn key_of(word: &[u8]) -> Option<OptionKey>
     ensures { result ≡ key_of word.now }
 {
     if word == b"action".as_slice() {
-        Some(Key::Action)
+        Some(OptionKey::Action)
     } else if word == b"queue".as_slice() {
-        Some(Key::Queue)
+        Some(OptionKey::Queue)
     } else if word == b"loc".as_slice() {
-        Some(Key::Loc)
+        Some(OptionKey::Loc)
     } else {
-        match field_named(word) {
-            Some(field) => Some(Key::Field(field)),
+        match field_of(word) {
+            Some(field) => Some(OptionKey::Field(field)),
             None => None,
         }
     }
 }
 
 /// The field that a word names.
-#[tactic(auto, unfolding(crate::specs::Keys::field_of))]
-fn field_named(word: &[u8]) -> Option<Field>
+#[tactic(auto, unfolding(crate::specs::Keys::field_name, crate::specs::Keys::field_of))]
+fn field_of(word: &[u8]) -> Option<Field>
     ensures { result ≡ field_of word.now }
 {
     if word == b"src".as_slice() {
@@ -132,8 +132,8 @@ fn field_named(word: &[u8]) -> Option<Field>
 
 impl Flow {
     /// Whether the flow has the field.
-    pub(crate) fn has(self, field: Field) -> bool
-        ensures { result ≡ is_in self field }
+    pub(crate) fn has_field(self, field: Field) -> bool
+        ensures { result ≡ has_field self field }
     {
         match field {
             Field::SrcMac | Field::DstMac | Field::EtherType => self == Flow::Ether,

@@ -3,18 +3,19 @@ ghost use Rattle.std.specs.Prelude.{◌≡◌, ◌≤◌, ◌<◌, ◌^◌, leng
 ghost use Rattle.std.specs.Char.{is_ascii_digit};
 ghost use Rattle.std.specs.Option.{SomeIff};
 ghost use Rattle.std.specs.Str.Parse.{digits_value};
-ghost use Rattle.ntuple_text.specs.Numerals.{are_hex_digits, hex_number, is_hexadecimal, is_octal, numeral_of, numeral_to, spelled_number};
+ghost use Rattle.ntuple_text.specs.Numerals.{are_hex_digits, hex_number, is_hexadecimal, is_octal, numeral_of};
+ghost use Rattle.ntuple_text.specs.Numerals.{numeral_up_to, spelled_number};
 
-use crate::fault::Fault;
+use crate::error::Fault;
 use vnff_base::{is_hex, num_read};
 
 /// The number that a word spells, which is to be at most `most`.
-#[tactic(auto, unfolding(crate::specs::Numerals::numeral_to))]
-pub(crate) fn number_to(word: &[u8], most: u64) -> Result<u64, Fault>
-    ensures value { result ≡ numeral_to most word.now }
+#[tactic(auto, unfolding(crate::specs::Numerals::numeral_up_to))]
+pub(crate) fn numeral_up_to(word: &[u8], most: u64) -> Result<u64, Fault>
+    ensures value { result ≡ numeral_up_to most word.now }
     ensures bound { IfOk result (λ n. n ≤ most) }
 {
-    let value = number(word)?;
+    let value = numeral_of(word)?;
     if value > most {
         return Err(Fault::Number);
     }
@@ -24,7 +25,7 @@ pub(crate) fn number_to(word: &[u8], most: u64) -> Result<u64, Fault>
 /// The number that a word spells: decimal digits without a leading zero, or hexadecimal digits after
 /// `0x` or `0X`.
 #[tactic(auto, unfolding(crate::specs::Numerals::numeral_of))]
-pub(crate) fn number(word: &[u8]) -> Result<u64, Fault>
+pub(crate) fn numeral_of(word: &[u8]) -> Result<u64, Fault>
     ensures { result ≡ numeral_of word.now }
 {
     if is_octal(word) {

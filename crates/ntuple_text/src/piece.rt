@@ -3,7 +3,8 @@ ghost use Rattle.std.specs.Prelude.{◌≡◌, ◌≤◌, ◌<◌, ◌^◌, ◌�
 ghost use Rattle.std.specs.List.{position, slice_split};
 ghost use Rattle.arrayvec.specs.ArrayVec.{array_vec_len};
 ghost use Rattle.vnff_base.specs.Numbers.{number_of};
-ghost use Rattle.ntuple_text.specs.Pieces.{byte_within, hex_group, is_separator, piece_of, pieces_of};
+ghost use Rattle.ntuple_text.specs.Pieces.{byte_within, hex_group, ipv6_group_digits, is_separator, most_groups};
+ghost use Rattle.ntuple_text.specs.Pieces.{piece_of, pieces_of};
 
 use crate::numeral::hex_number;
 use arrayvec::ArrayVec;
@@ -20,24 +21,38 @@ pub enum Spelling {
     Ipv6Group,
 }
 
+/// The base in which a MAC or IPv4 address is a number, with bytes as digits.
+pub(crate) const BYTE_BASE: u128 = 256;
+
+/// The base in which an IPv6 address is a number, with groups as digits.
+pub(crate) const GROUP_BASE: u128 = 65536;
+
+/// The most parts that an address has.
+pub(crate) const MOST_GROUPS: usize = 8;
+
+// The most digits of a group.
+const MAC_GROUP_DIGITS: usize = 2;
+
+const IPV6_GROUP_DIGITS: usize = 4;
+
 /// The numbers of an address's parts, of which there are at most eight.
 pub(crate) type Groups = ArrayVec<u16, 8>;
 
 /// The numbers of all pieces of a text but the last, and the last piece; none where there are more
 /// than eight pieces, or one of those numbers is spelled wrongly.
 #[tactic(auto, unfolding(crate::specs::Pieces::pieces_of))]
-pub(crate) fn pieces(text: &[u8], separator: u8, spelling: Spelling) -> Option<(Groups, &[u8])>
+pub(crate) fn pieces_of(text: &[u8], separator: u8, spelling: Spelling) -> Option<(Groups, &[u8])>
     ensures value { MatchOption result (pieces_of spelling separator text.now ≡ None)
         (λ pieces. pieces_of spelling separator text.now ≡ Some (pieces.0.items, pieces.1.now)) }
-    ensures room { IfSome result (λ pieces. array_vec_len pieces.0 < 8) }
+    ensures room { IfSome result (λ pieces. array_vec_len pieces.0 < most_groups) }
 {
-    if separators(text, separator) >= 8 {
+    if separators(text, separator) >= MOST_GROUPS {
         return None;
     }
     let mut front = ArrayVec::new();
     let mut rest = text;
     while let Some((first, more)) = first_piece(rest, separator) {
-        front.push(piece_number(first, spelling)?);
+        front.push(piece_of(first, spelling)?);
         rest = more;
     }
     Some((front, rest))
@@ -70,17 +85,17 @@ fn separator_place(text: &[u8], separator: u8) -> Option<usize>
 
 /// The number of one piece.
 #[tactic(auto, unfolding(crate::specs::Pieces::piece_of))]
-pub(crate) fn piece_number(piece: &[u8], spelling: Spelling) -> Option<u16>
+pub(crate) fn piece_of(piece: &[u8], spelling: Spelling) -> Option<u16>
     ensures { result ≡ piece_of spelling piece.now }
 {
     match spelling {
-        Spelling::MacGroup => hex_group(piece, 2),
-        Spelling::Ipv4Byte => byte(piece),
-        Spelling::Ipv6Group => hex_group(piece, 4),
+        Spelling::MacGroup => hex_group(piece, MAC_GROUP_DIGITS),
+        Spelling::Ipv4Byte => byte_of(piece),
+        Spelling::Ipv6Group => hex_group(piece, IPV6_GROUP_DIGITS),
     }
 }
 
-fn byte(piece: &[u8]) -> Option<u16>
+fn byte_of(piece: &[u8]) -> Option<u16>
     ensures { result ≡ byte_within (number_of piece.now) }
 {
     let value = num_read(piece)?;
@@ -93,7 +108,7 @@ fn byte(piece: &[u8]) -> Option<u16>
 
 // The number that at most so many hexadecimal digits spell.
 fn hex_group(digits: &[u8], most: usize) -> Option<u16>
-    requires { most ≤ 4 }
+    requires { most ≤ ipv6_group_digits }
     ensures { result ≡ hex_group most digits.now }
 {
     if digits.len() > most {

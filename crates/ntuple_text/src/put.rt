@@ -1,12 +1,16 @@
 //! Specs and tables, written as canonical lines.
-ghost use Rattle.std.specs.Prelude.{◌≡◌, ◌++◌, ◌∷◌, ◌*◌, ◌≤◌, [], length};
+ghost use Rattle.std.specs.Prelude.{◌≡◌, ◌++◌, ◌*◌, ◌≤◌, length};
 ghost use Rattle.std.specs.List.{flat_map};
 ghost use Rattle.vnff_base.specs.Lines.{word_lines, words_of};
 ghost use Rattle.vnff_base.specs.Outputs.{Writes};
-ghost use Rattle.ntuple_text.specs.SpecTexts.{action_text, field_text, field_word, fields_of, flow_word, given_text, loc_text, longest_line, mask_text, options_text, part_text, queue_text, skip_text, slot_text, spec_part, spec_text, table_text, value_text};
+ghost use Rattle.ntuple_text.specs.Keys.{flow_word};
+ghost use Rattle.ntuple_text.specs.SpecTexts.{action_words, field_text, field_word, fields_of, line_feed};
+ghost use Rattle.ntuple_text.specs.SpecTexts.{loc_words, longest_line, mask_text, optional_part_text, options_text};
+ghost use Rattle.ntuple_text.specs.SpecTexts.{part_text, queue_words, skip_text, slot_text, spec_part, spec_text};
+ghost use Rattle.ntuple_text.specs.SpecTexts.{table_lines, value_text};
 ghost use Rattle.ntuple_text.specs.Spellable.{IsSpellable};
 ghost use Rattle.ntuple_text.specs.TableLines.{after_line, table_of};
-ghost use Rattle.ntuple_text.specs.TableMaps.{TableMap, with_spec};
+ghost use Rattle.ntuple_text.specs.TableMaps.{TableMap, location_count, pair_limit, with_spec};
 
 use crate::key::Field;
 use crate::put_piece::{put_form, put_mac, put_number, put_type};
@@ -16,11 +20,11 @@ use vnff_base::{Failed, Out};
 
 /// Writes the lines of a table, by rising location. Read for the same queue pairs, they give the table again.
 pub fn put_table<O: Out>(out: &mut O, table: &Table) -> Result<(), Failed>
-    ensures written { Writes (O.state out.old) (O.state out.new) (table_text table.now) result }
-    ensures read_back { table_of table.now.pairs (word_lines (table_text table.now)) ≡ Ok table.now }
+    ensures written { Writes (O.state out.old) (O.state out.new) (table_lines table.now) result }
+    ensures read_back { table_of table.now.pairs (word_lines (table_lines table.now)) ≡ Ok table.now }
 
     // Its text isn't too long to be read.
-    ensures short { length (table_text table.now) ≤ 1024 * longest_line }
+    ensures short { length (table_lines table.now) ≤ location_count * longest_line }
 {
     put_slots(out, table.slots())
 }
@@ -46,7 +50,7 @@ fn put_slot<O: Out>(out: &mut O, slot: &Option<Spec>) -> Result<(), Failed>
 }
 
 fn put_line<O: Out>(out: &mut O, spec: &Spec) -> Result<(), Failed>
-    ensures { Writes (O.state out.old) (O.state out.new) (spec_text spec.now ++ 10 ∷ []) result }
+    ensures { Writes (O.state out.old) (O.state out.new) (spec_text spec.now ++ line_feed) result }
 {
     put_spec(out, spec)?;
     out.put(b"\n")
@@ -59,7 +63,7 @@ pub fn put_spec<O: Out>(out: &mut O, spec: &Spec) -> Result<(), Failed>
     ensures written { Writes (O.state out.old) (O.state out.new) (spec_text spec.now) result }
 
     // The line of a spec that lines can spell puts just this spec into any table.
-    ensures read_back { (table : TableMap) → table.pairs ≤ 16 → IsSpellable table.pairs spec.now
+    ensures read_back { (table : TableMap) → table.pairs ≤ pair_limit → IsSpellable table.pairs spec.now
         → after_line table (words_of (spec_text spec.now)) ≡ Ok (with_spec table spec.now) }
 {
     out.put(b"flow-type ")?;
@@ -67,7 +71,7 @@ pub fn put_spec<O: Out>(out: &mut O, spec: &Spec) -> Result<(), Failed>
     put_options(out, spec)
 }
 
-#[tactic(auto, unfolding(crate::specs::SpecTexts::flow_word))]
+#[tactic(auto, unfolding(crate::specs::Keys::flow_word))]
 fn put_flow<O: Out>(out: &mut O, flow: Flow) -> Result<(), Failed>
     ensures { Writes (O.state out.old) (O.state out.new) (flow_word flow) result }
 {
@@ -92,9 +96,10 @@ fn put_options<O: Out>(out: &mut O, spec: &Spec) -> Result<(), Failed>
 }
 
 fn put_fields<O: Out>(out: &mut O, spec: &Spec) -> Result<(), Failed>
-    ensures { Writes (O.state out.old) (O.state out.new) (flat_map (field_text spec.now) (fields_of spec.now.flow)) result }
+    ensures { Writes (O.state out.old) (O.state out.new)
+        (flat_map (field_text spec.now) (fields_of spec.now.flow)) result }
 {
-    put_each(out, spec, fields(spec.flow))
+    put_each(out, spec, fields_of(spec.flow))
 }
 
 fn put_each<O: Out>(out: &mut O, spec: &Spec, fields: &[Field]) -> Result<(), Failed>
@@ -108,7 +113,7 @@ fn put_each<O: Out>(out: &mut O, spec: &Spec, fields: &[Field]) -> Result<(), Fa
 
 // The fields of a flow, in the order in which they are written.
 #[tactic(auto, unfolding(crate::specs::SpecTexts::fields_of))]
-fn fields(flow: Flow) -> &'static [Field]
+fn fields_of(flow: Flow) -> &'static [Field]
     ensures { result.now ≡ fields_of flow }
 {
     match flow {
@@ -141,16 +146,16 @@ fn fields(flow: Flow) -> &'static [Field]
 fn put_field<O: Out>(out: &mut O, spec: &Spec, field: Field) -> Result<(), Failed>
     ensures { Writes (O.state out.old) (O.state out.new) (field_text spec.now field) result }
 {
-    put_given(out, spec.flow, field, part(spec, field))
+    put_optional_part(out, spec.flow, field, spec_part(spec, field))
 }
 
-fn put_given<O: Out>(
+fn put_optional_part<O: Out>(
     out: &mut O,
     flow: Flow,
     field: Field,
     part: Option<Part>,
 ) -> Result<(), Failed>
-    ensures { Writes (O.state out.old) (O.state out.new) (given_text flow field part) result }
+    ensures { Writes (O.state out.old) (O.state out.new) (optional_part_text flow field part) result }
 {
     match part {
         Some(part) => put_part(out, flow, field, part),
@@ -159,7 +164,7 @@ fn put_given<O: Out>(
 }
 
 // The part that stands for a field.
-fn part(spec: &Spec, field: Field) -> Option<Part>
+fn spec_part(spec: &Spec, field: Field) -> Option<Part>
     ensures { result ≡ spec_part spec.now field }
 {
     match field {
@@ -181,7 +186,7 @@ fn put_part<O: Out>(out: &mut O, flow: Flow, field: Field, part: Part) -> Result
     put_mask(out, flow, field, part.skip)
 }
 
-#[tactic(auto, unfolding(crate::specs::SpecTexts::field_word))]
+#[tactic(auto, unfolding(crate::specs::Keys::field_name, crate::specs::SpecTexts::field_word))]
 fn put_field_word<O: Out>(out: &mut O, field: Field) -> Result<(), Failed>
     ensures { Writes (O.state out.old) (O.state out.new) (field_word field) result }
 {
@@ -230,9 +235,9 @@ fn put_value<O: Out>(out: &mut O, flow: Flow, field: Field, value: u128) -> Resu
     }
 }
 
-#[tactic(auto, unfolding(crate::specs::SpecTexts::action_text))]
+#[tactic(auto, unfolding(crate::specs::SpecTexts::action_words))]
 fn put_action<O: Out>(out: &mut O, action: TableDo) -> Result<(), Failed>
-    ensures { Writes (O.state out.old) (O.state out.new) (action_text action) result }
+    ensures { Writes (O.state out.old) (O.state out.new) (action_words action) result }
 {
     match action {
         TableDo::Drop => out.put(b" action -1"),
@@ -240,67 +245,18 @@ fn put_action<O: Out>(out: &mut O, action: TableDo) -> Result<(), Failed>
     }
 }
 
-#[tactic(auto, unfolding(crate::specs::SpecTexts::queue_text))]
+#[tactic(auto, unfolding(crate::specs::SpecTexts::queue_words))]
 fn put_queue<O: Out>(out: &mut O, queue: u8) -> Result<(), Failed>
-    ensures { Writes (O.state out.old) (O.state out.new) (queue_text queue) result }
+    ensures { Writes (O.state out.old) (O.state out.new) (queue_words queue) result }
 {
     out.put(b" action ")?;
     put_number(out, u128::from(queue))
 }
 
-#[tactic(auto, unfolding(crate::specs::SpecTexts::loc_text))]
+#[tactic(auto, unfolding(crate::specs::SpecTexts::loc_words))]
 fn put_loc<O: Out>(out: &mut O, loc: u16) -> Result<(), Failed>
-    ensures { Writes (O.state out.old) (O.state out.new) (loc_text loc) result }
+    ensures { Writes (O.state out.old) (O.state out.new) (loc_words loc) result }
 {
     out.put(b" loc ")?;
     put_number(out, u128::from(loc))
-}
-
-#[cfg(test)]
-mod tests {
-    use super::*;
-    use crate::fault::TextErr;
-    use crate::read::read_table;
-    use std::alloc::Global;
-    use std::test::Fail;
-    use vnff_base::MemOut;
-
-    // Tables for four queue pairs, and their canonical texts.
-    #[test]
-    fn writes_canonical_lines(rt: HostRuntime) -> Result<(), Fail> {
-        let cases: [(&[u8], &[u8]); 2] = [
-            (
-                b"flow-type ip6 src-ip ::A m ::f loc 4 action 0\nflow-type ether proto 2054 m 0xff00 action -1 loc 3",
-                b"flow-type ether proto 0x0806 m 0xff00 action -1 loc 3\nflow-type ip6 src-ip 0:0:0:0:0:0:0:a m 0:0:0:0:0:0:0:f action 0 loc 4\n",
-            ),
-            (
-                b"flow-type ether dst 2:0:0:0:0:1 proto 0x0806 action -1 loc 3\nflow-type ip6 src-ip ::1 action 0 loc 2",
-                b"flow-type ip6 src-ip 0:0:0:0:0:0:0:1 action 0 loc 2\nflow-type ether dst 02:00:00:00:00:01 proto 0x0806 action -1 loc 3\n",
-            ),
-        ];
-        for (text, lines) in cases {
-            let mut out = MemOut::new(rt.alloc(), 256)?;
-            let table = table_read(rt.alloc(), text)?;
-            assert_eq!(rt; put_table(&mut out, &table), Ok(()));
-            assert!(rt; out.bytes() == lines);
-        }
-        Ok(())
-    }
-
-    // The table of a text.
-    fn table_read(alloc: Global, text: &[u8]) -> Result<Table, TextErr> {
-        if text.len() > 256 {
-            return Err(TextErr::Memory);
-        }
-        read_table(alloc, text, 4)
-    }
-
-    #[test]
-    fn a_full_output_takes_no_line(rt: HostRuntime) -> Result<(), Fail> {
-        let table = read_table(rt.alloc(), b"flow-type ip4 action 0 loc 3", 4)?;
-        let spec = table.at(3).ok_or("a spec")?;
-        let mut line = MemOut::new(rt.alloc(), 8)?;
-        assert_eq!(rt; put_spec(&mut line, spec), Err(Failed));
-        Ok(())
-    }
 }

@@ -1,11 +1,15 @@
 //! Addresses and numbers, put to an output.
-ghost use Rattle.std.specs.Prelude.{◌≡◌, ◌<◌, ◌/◌, ◌%◌, length, decimal, slice_index, drop, ◌++◌};
+ghost use Rattle.std.specs.Prelude.{◌≡◌, ◌<◌, ◌≤◌, length, decimal, slice_index, drop, ◌++◌};
 ghost use Rattle.std.specs.List.{flat_map};
 ghost use Rattle.vnff_base.specs.Outputs.{Writes};
-ghost use Rattle.ntuple_text.specs.SpecTexts.{four_digits, form_text, ipv4_text, ipv6_text, leading_zeros, mac_text, next_piece, piece_text, pieces_text, type_text};
+ghost use Rattle.ntuple_text.specs.Pieces.{group_base, most_groups};
+ghost use Rattle.ntuple_text.specs.SpecTexts.{form_text, four_digits, ipv4_text, ipv6_text, joined_text};
+ghost use Rattle.ntuple_text.specs.SpecTexts.{leading_zeros, low_digits, mac_text};
+ghost use Rattle.ntuple_text.specs.SpecTexts.{next_piece, piece_text, pieces_text, type_text};
 
 use crate::key::Form;
-use crate::piece::Spelling;
+use crate::piece::{BYTE_BASE, GROUP_BASE, Groups, Spelling};
+use arrayvec::ArrayVec;
 use itoa::Buffer;
 use vnff_base::{Failed, Out, hex_digit};
 
@@ -44,48 +48,58 @@ pub(crate) fn put_type<O: Out>(out: &mut O, value: u128) -> Result<(), Failed>
 pub(crate) fn put_mac<O: Out>(out: &mut O, address: u128) -> Result<(), Failed>
     ensures { Writes (O.state out.old) (O.state out.new) (mac_text address) result }
 {
-    let rest = [
-        (address / 0x1_0000_0000 % 256) as u16,
-        (address / 0x100_0000 % 256) as u16,
-        (address / 0x1_0000 % 256) as u16,
-        (address / 0x100 % 256) as u16,
-        (address % 256) as u16,
-    ];
-    let first = (address / 0x100_0000_0000 % 256) as u16;
-    put_pieces(out, Spelling::MacGroup, b':', first, &rest)
+    let groups = low_digits(address, BYTE_BASE, 5);
+    put_joined(out, Spelling::MacGroup, b':', groups.as_slice())
 }
 
 #[tactic(auto, unfolding(crate::specs::SpecTexts::ipv4_text))]
 fn put_ipv4<O: Out>(out: &mut O, address: u128) -> Result<(), Failed>
     ensures { Writes (O.state out.old) (O.state out.new) (ipv4_text address) result }
 {
-    let rest = [
-        (address / 0x1_0000 % 256) as u16,
-        (address / 0x100 % 256) as u16,
-        (address % 256) as u16,
-    ];
-    let first = (address / 0x100_0000 % 256) as u16;
-    put_pieces(out, Spelling::Ipv4Byte, b'.', first, &rest)
+    let bytes = low_digits(address, BYTE_BASE, 3);
+    put_joined(out, Spelling::Ipv4Byte, b'.', bytes.as_slice())
 }
 
 #[tactic(auto, unfolding(crate::specs::SpecTexts::ipv6_text))]
 fn put_ipv6<O: Out>(out: &mut O, address: u128) -> Result<(), Failed>
     ensures { Writes (O.state out.old) (O.state out.new) (ipv6_text address) result }
 {
-    let rest = [
-        (address / 0x1_0000_0000_0000_0000_0000_0000 % 0x1_0000) as u16,
-        (address / 0x1_0000_0000_0000_0000_0000 % 0x1_0000) as u16,
-        (address / 0x1_0000_0000_0000_0000 % 0x1_0000) as u16,
-        (address / 0x1_0000_0000_0000 % 0x1_0000) as u16,
-        (address / 0x1_0000_0000 % 0x1_0000) as u16,
-        (address / 0x1_0000 % 0x1_0000) as u16,
-        (address % 0x1_0000) as u16,
-    ];
-    let first = (address / 0x1_0000_0000_0000_0000_0000_0000_0000 % 0x1_0000) as u16;
-    put_pieces(out, Spelling::Ipv6Group, b':', first, &rest)
+    let groups = low_digits(address, GROUP_BASE, 7);
+    put_joined(out, Spelling::Ipv6Group, b':', groups.as_slice())
 }
 
-// Writes pieces with separators between them.
+// The digits of a number in a base, from a place down to the last, the highest first.
+fn low_digits(number: u128, base: u128, highest: u32) -> Groups
+    requires some { 2 ≤ base }
+    requires base { base ≤ group_base }
+    requires few { highest < most_groups }
+    ensures { result.items ≡ low_digits base highest number }
+{
+    let mut digits: Groups = ArrayVec::new();
+    let mut place = highest;
+    while place > 0 {
+        digits.push((number / base.pow(place) % base) as u16);
+        place -= 1;
+    }
+    digits.push((number % base) as u16);
+    digits
+}
+
+fn put_joined<O: Out>(
+    out: &mut O,
+    spelling: Spelling,
+    separator: u8,
+    pieces: &[u16],
+) -> Result<(), Failed>
+    ensures { Writes (O.state out.old) (O.state out.new) (joined_text spelling separator pieces.now) result }
+{
+    match pieces.split_first() {
+        Some((first, rest)) => put_pieces(out, spelling, separator, *first, rest),
+        None => Ok(()),
+    }
+}
+
+// Writes a first piece and the others, with separators between them.
 fn put_pieces<O: Out>(
     out: &mut O,
     spelling: Spelling,

@@ -2,10 +2,11 @@
 ghost use Rattle.std.specs.Prelude.{◌≡◌, ◌<◌, ◌≤◌, IfOk, IfSome, count_by, is_some, length, vec_len};
 ghost use Rattle.std.specs.Option.{option_copied};
 ghost use Rattle.ntuple_text.specs.Spellable.{IsSpellable, IsTable};
-ghost use Rattle.ntuple_text.specs.TableMaps.{empty_table, free_slots, last_free, spec_at, spec_count, with_spec, without_spec};
+ghost use Rattle.ntuple_text.specs.TableMaps.{empty_table, free_slots, last_free, location_count, pair_limit, spec_at};
+ghost use Rattle.ntuple_text.specs.TableMaps.{spec_count, with_spec, without_spec};
 
 use crate::spec::Spec;
-use crate::value::LOCATIONS;
+use crate::value::LOCATION_COUNT;
 use std::alloc::{AllocError, Global};
 use std::marker::Model;
 
@@ -32,12 +33,12 @@ impl Table {
     /// A table without a spec, with the room of all locations.
     pub(crate) fn empty(alloc: Global, pairs: u8) -> Result<Table, AllocError>
         requires some_pairs { 1 ≤ pairs }
-        requires most_pairs { pairs ≤ 16 }
+        requires most_pairs { pairs ≤ pair_limit }
         ensures { IfOk result (λ table. table ≡ empty_table pairs) }
     {
         Ok(Table {
             pairs,
-            slots: free_slots(alloc, LOCATIONS as usize)?,
+            slots: free_slots(alloc, LOCATION_COUNT as usize)?,
         })
     }
 
@@ -55,9 +56,9 @@ impl Table {
     /// How many specs there are.
     pub fn len(&self) -> usize
         ensures value { result ≡ spec_count self.now }
-        ensures most { result ≤ 1024 }
+        ensures most { result ≤ location_count }
     {
-        count(&self.slots)
+        count_specs(&self.slots)
     }
 
     /// The queue pairs that the table's queues are below.
@@ -86,7 +87,7 @@ impl Table {
 
     /// Takes the spec at a location out of the table.
     pub(crate) fn remove(&mut self, loc: u16)
-        requires { loc < 1024 }
+        requires { loc < location_count }
         ensures { self.new ≡ without_spec self.old loc }
     {
         self.slots[usize::from(loc)] = None;
@@ -115,7 +116,7 @@ fn free_slots(alloc: Global, count: usize) -> Result<Vec<Option<Spec>>, AllocErr
     Ok(slots)
 }
 
-fn count(slots: &[Option<Spec>]) -> usize
+fn count_specs(slots: &[Option<Spec>]) -> usize
     ensures { result ≡ count_by is_some slots.now }
 {
     let mut count = 0;

@@ -1,58 +1,64 @@
 //! The values of an option.
 ghost use Rattle.std.specs.Prelude.{◌≡◌, ◌<◌, IfOk};
-ghost use Rattle.ntuple_text.specs.Numerals.{numeral_to};
-ghost use Rattle.ntuple_text.specs.Values.{action_of, location_of, queue_of, value_of};
+ghost use Rattle.ntuple_text.specs.Numerals.{numeral_up_to};
+ghost use Rattle.ntuple_text.specs.TableMaps.{location_count};
+ghost use Rattle.ntuple_text.specs.Values.{action_value, field_value, location_value, queue_value};
 
-use crate::address::{ipv4, ipv6, mac};
-use crate::fault::Fault;
+use crate::address::{ipv4_of, ipv6_of, mac_of};
+use crate::error::Fault;
 use crate::key::Form;
-use crate::numeral::{number, number_to};
+use crate::numeral::{numeral_of, numeral_up_to};
 use crate::spec::TableDo;
 
 /// How many locations a table has.
-pub(crate) const LOCATIONS: u64 = 1024;
+pub(crate) const LOCATION_COUNT: u64 = 1024;
+
+// The greatest numbers of 8 and of 16 bits.
+const MOST_8_BITS: u64 = 0xff;
+
+const MOST_16_BITS: u64 = 0xffff;
 
 /// The value of a field, or of its mask, in the field's form.
-#[tactic(auto, unfolding(crate::specs::Values::value_of))]
-pub(crate) fn value(word: &[u8], form: Form) -> Result<u128, Fault>
-    ensures { result ≡ value_of form word.now }
+#[tactic(auto, unfolding(crate::specs::Values::field_value))]
+pub(crate) fn field_value(word: &[u8], form: Form) -> Result<u128, Fault>
+    ensures { result ≡ field_value form word.now }
 {
     match form {
-        Form::Mac => mac(word).ok_or(Fault::Address),
-        Form::Ipv4 => ipv4(word).ok_or(Fault::Address),
-        Form::Ipv6 => ipv6(word).ok_or(Fault::Address),
-        Form::Bits8 => wide_number(word, 0xff),
-        Form::Bits16 => wide_number(word, 0xffff),
+        Form::Mac => mac_of(word).ok_or(Fault::Address),
+        Form::Ipv4 => ipv4_of(word).ok_or(Fault::Address),
+        Form::Ipv6 => ipv6_of(word).ok_or(Fault::Address),
+        Form::Bits8 => wide_number(word, MOST_8_BITS),
+        Form::Bits16 => wide_number(word, MOST_16_BITS),
     }
 }
 
 fn wide_number(word: &[u8], most: u64) -> Result<u128, Fault>
-    ensures { result ≡ numeral_to most word.now }
+    ensures { result ≡ numeral_up_to most word.now }
 {
-    match number_to(word, most) {
+    match numeral_up_to(word, most) {
         Ok(value) => Ok(u128::from(value)),
         Err(fault) => Err(fault),
     }
 }
 
 /// What `action` asks for: `-1` is a drop, and another number a receive queue.
-#[tactic(auto, unfolding(crate::specs::Values::action_of))]
-pub(crate) fn action(word: &[u8], pairs: u8) -> Result<TableDo, Fault>
-    ensures { result ≡ action_of pairs word.now }
+#[tactic(auto, unfolding(crate::specs::Values::action_value))]
+pub(crate) fn action_value(word: &[u8], pairs: u8) -> Result<TableDo, Fault>
+    ensures { result ≡ action_value pairs word.now }
 {
     if word == b"-1".as_slice() {
         Ok(TableDo::Drop)
     } else {
-        queue(word, pairs)
+        queue_value(word, pairs)
     }
 }
 
 /// A receive queue, which is below the queue pairs.
-#[tactic(auto, unfolding(crate::specs::Values::queue_of))]
-pub(crate) fn queue(word: &[u8], pairs: u8) -> Result<TableDo, Fault>
-    ensures { result ≡ queue_of pairs word.now }
+#[tactic(auto, unfolding(crate::specs::Values::queue_value))]
+pub(crate) fn queue_value(word: &[u8], pairs: u8) -> Result<TableDo, Fault>
+    ensures { result ≡ queue_value pairs word.now }
 {
-    let queue = number(word)?;
+    let queue = numeral_of(word)?;
     if queue >= u64::from(pairs) {
         return Err(Fault::Queue);
     }
@@ -60,13 +66,13 @@ pub(crate) fn queue(word: &[u8], pairs: u8) -> Result<TableDo, Fault>
 }
 
 /// A location.
-#[tactic(auto, unfolding(crate::specs::Values::location_of))]
-pub(crate) fn location(word: &[u8]) -> Result<u16, Fault>
-    ensures value { result ≡ location_of word.now }
-    ensures bound { IfOk result (λ loc. loc < 1024) }
+#[tactic(auto, unfolding(crate::specs::Values::location_value))]
+pub(crate) fn location_value(word: &[u8]) -> Result<u16, Fault>
+    ensures value { result ≡ location_value word.now }
+    ensures bound { IfOk result (λ loc. loc < location_count) }
 {
-    let loc = number(word)?;
-    if loc >= LOCATIONS {
+    let loc = numeral_of(word)?;
+    if loc >= LOCATION_COUNT {
         return Err(Fault::Loc);
     }
     Ok(loc as u16)

@@ -5,4 +5,4 @@ use Rattle.ntuple_text.proofs.table.Table.len.Goals as goal
 
 pub returns-clause-most : goal.returns-clause-most
 returns-clause-most c =
-    omega (arith, c.count.ensures, count_by-le-length is_some c.deref.result.now, ap length c.deref.ensures.value, c.self.invariant.size)
+    omega (arith, c.count_specs.ensures, count_by-le-length is_some c.deref.result.now, ap length c.deref.ensures.value, c.self.invariant.size)

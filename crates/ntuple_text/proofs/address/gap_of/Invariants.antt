@@ -2,7 +2,7 @@
 use Rattle.std.proofs.Common.{◌≡◌, ◌≤◌, ◌-◌, length, drop}
 use Rattle.ntuple_text.specs.Addresses.{gap_of}
 use Rattle.ntuple_text.proofs.GapLemmas.{gap_after}
-use Rattle.ntuple_text.proofs.address.gap.Given as goal
+use Rattle.ntuple_text.proofs.address.gap_of.Given as goal
 
 abbrev pub invariant-loop-place : goal.invariant-loop-place
 invariant-loop-place l = record {

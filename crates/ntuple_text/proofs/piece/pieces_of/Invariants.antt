@@ -3,7 +3,7 @@ use Rattle.std.proofs.Common.{◌≡◌, ◌+◌, ◌≤◌, length}
 use Rattle.std.specs.List.{slice_split}
 use Rattle.ntuple_text.specs.Pieces.{front_of, is_separator}
 use Rattle.ntuple_text.proofs.PieceLemmas.{after_front}
-use Rattle.ntuple_text.proofs.piece.pieces.Given as goal
+use Rattle.ntuple_text.proofs.piece.pieces_of.Given as goal
 
 abbrev pub invariant-loop-first : goal.invariant-loop-first
 invariant-loop-first l = record {

@@ -1,6 +1,6 @@
 -- The specs so far are counted.
 use Rattle.std.proofs.Common.{◌≡◌, ◌≤◌, take, count_by, is_some}
-use Rattle.ntuple_text.proofs.table.count.Given as goal
+use Rattle.ntuple_text.proofs.table.count_specs.Given as goal
 
 abbrev pub invariant-loop-slot : goal.invariant-loop-slot
 invariant-loop-slot l = record {
