@@ -13,6 +13,18 @@ use Rattle.cap_table.specs.declared.answer.Effect.TheVariants as effects
 use Rattle.cap_table.proofs.ValidSteps.{valid_with_effect}
 use Rattle.admin_dev.specs.DeviceParts.{state_of, AreParts}
 
+-- opcodes and capabilities that the machine gives take the place of those before them
+module _ (caps : CapsParts) (in_use : ℕ) (driver : DriverParts) (kept : LimitedObjects) (parts : AreParts caps in_use driver kept) (state : DeviceState) (view : state_of caps in_use driver kept ≡ state) where
+  pub parts_used : (effect : Effect) → IsEffect state effect → (opcodes : ℕ) → effect ≡ effects.Use opcodes → AreParts caps opcodes driver kept
+  parts_used effect has opcodes is =
+      let has_use : IsEffect (state_of caps in_use driver kept) (effects.Use opcodes) = subst (λ (s : DeviceState). IsEffect s (effects.Use opcodes)) (sym view) (subst (IsEffect state) is has) in
+      record { limits = parts.limits; valid = valid_with_effect (state_of caps in_use driver kept) parts.valid (effects.Use opcodes) has_use }
+
+  pub parts_set : (effect : Effect) → IsEffect state effect → (set : DriverParts) → effect ≡ effects.Caps set → AreParts caps in_use set kept
+  parts_set effect has set is =
+      let has_caps : IsEffect (state_of caps in_use driver kept) (effects.Caps set) = subst (λ (s : DeviceState). IsEffect s (effects.Caps set)) (sym view) (subst (IsEffect state) is has) in
+      record { limits = parts.limits; valid = valid_with_effect (state_of caps in_use driver kept) parts.valid (effects.Caps set) has_caps }
+
 pub parts_kept : (caps : CapsParts) (in_use : ℕ) (driver : DriverParts) (kept : LimitedObjects) → AreParts caps in_use driver kept → (state : DeviceState) → state_of caps in_use driver kept ≡ state → (effect : Effect) → IsEffect state effect → (change : Change) → effect ≡ effects.Change change → (after : LimitedObjects) → after ≡ with_change kept change → AreParts caps in_use driver after
 parts_kept caps in_use driver kept parts state view effect has change is after e =
     let has_change : IsEffect (state_of caps in_use driver kept) (effects.Change change) = subst (λ (s : DeviceState). IsEffect s (effects.Change change)) (sym view) (subst (IsEffect state) is has) in

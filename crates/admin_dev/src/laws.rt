@@ -1,20 +1,67 @@
 //! Laws of the object machine. Each call does nothing: its contract is the law.
 
-ghost use Rattle.std.specs.Prelude.{◌≡◌, ◌≢◌, ℕ, List, [], true};
+ghost use Rattle.std.specs.Prelude.{◌≡◌, ◌≢◌, ◌≤◌, ℕ, List, [], true, Some, IsSome};
+ghost use Rattle.std.specs.List.{AllByRecursion};
 ghost use Rattle.ff_headers.specs.Changes.{is_sound};
+ghost use Rattle.ff_headers.specs.Objects.{object_under, IsBacked};
+ghost use Rattle.ff_headers.specs.RuleParts.{RuleParts};
 ghost use Rattle.ff_headers.specs.declared.change.Change.{Change};
+ghost use Rattle.admin_wire.specs.declared.command.Command.TheVariants.{Create, Query, Destroy};
+ghost use Rattle.admin_wire.specs.declared.command.ObjData.{ObjData};
+ghost use Rattle.admin_wire.specs.declared.command.ObjHead.{ObjHead};
+ghost use Rattle.admin_wire.specs.Fields.{written};
+ghost use Rattle.admin_wire.specs.Layouts.{object_fields};
+ghost use Rattle.admin_wire.specs.Replies.{reply_bytes};
+ghost use Rattle.admin_wire.specs.Wire.{Reads};
+ghost use Rattle.cap_table.specs.Answers.{telling};
 ghost use Rattle.cap_table.specs.Caps.{CapsParts, AreCaps};
-ghost use Rattle.cap_table.specs.Rows.{no_memory};
+ghost use Rattle.cap_table.specs.Statuses.{no_memory};
 ghost use Rattle.cap_table.specs.States.{DeviceState, IsValid, start_state};
-ghost use Rattle.cap_table.specs.Steps.{effect_of, status_of, reply_of, next_state, state_after};
+ghost use Rattle.cap_table.specs.Steps.{effect_of, status_of, reply_of, next_state, state_after, Puts, IsElsewhere, IsInUse};
 ghost use Rattle.cap_table.specs.declared.answer.Effect.TheVariants as effects;
 ghost use Rattle.cap_table.specs.declared.start.Start.{Start};
 
-/// A device is valid at its start, and after any commands. So each rule's group and classifier are always held.
+/// A device is valid at its start, and after any commands: its objects are well formed within its limits, what its
+/// driver set is within what it offers, and the first two opcodes are in use.
 pub fn runs_are_valid()
     ensures start { (caps : CapsParts) (start : Start) → AreCaps caps → IsValid (start_state caps start) }
     ensures run { (state : DeviceState) (commands : List (List ℕ × ℕ)) → IsValid state
         → IsValid (state_after state commands) }
+{}
+
+/// In every state of every run each rule's group and classifier are held. No command destroys the group or the
+/// classifier of a rule, or changes that classifier.
+pub fn named_objects_stay()
+    ensures backed { (caps : CapsParts) (start : Start) (commands : List (List ℕ × ℕ)) (id : ℕ) (rule : RuleParts)
+        → let state = state_after (start_state caps start) commands in AreCaps caps
+        → object_under state.objects.rules id ≡ Some rule → IsBacked state.objects rule }
+    ensures group { (state : DeviceState) (bytes : List ℕ) (room : ℕ) (id : ℕ) (rule : RuleParts) → IsValid state
+        → object_under state.objects.rules id ≡ Some rule
+        → IsSome (object_under (next_state state bytes room).objects.groups rule.group) }
+    ensures classifier { (state : DeviceState) (bytes : List ℕ) (room : ℕ) (id : ℕ) (rule : RuleParts) → IsValid state
+        → object_under state.objects.rules id ≡ Some rule
+        → object_under (next_state state bytes room).objects.classifiers rule.classifier
+        ≡ object_under state.objects.classifiers rule.classifier }
+{}
+
+/// After an accepted create or modify of an object, and any commands that aren't about it, a query gives back what was
+/// put, with 0 in reserved bytes.
+pub fn queries_give_back_what_was_put()
+    ensures { (state : DeviceState) (put : List ℕ) (room : ℕ) (head : ObjHead) (object : ObjData) → IsValid state
+        → Puts put head object → 8 ≤ room → status_of (reply_of state put room) ≡ 0
+        → (commands : List (List ℕ × ℕ)) → AllByRecursion (IsElsewhere head.type_code head.id) commands
+        → let after = state_after (next_state state put room) commands in (query : List ℕ) (asked : ℕ)
+        → Reads query (Query head) → IsInUse after (Query head)
+        → reply_of after query asked ≡ reply_bytes (telling (written (object_fields object))) asked }
+{}
+
+/// A destroy right behind an accepted create gives the state before it.
+#[tactic(auto, using(cap_table::proofs::UndoneCreates::undone_create))]
+pub fn destroys_undo_creates()
+    ensures { (state : DeviceState) (create destroy : List ℕ) (room later : ℕ) (head : ObjHead) (object : ObjData)
+        → IsValid state → Reads create (Create head object) → Reads destroy (Destroy head) → 8 ≤ room → 8 ≤ later
+        → status_of (reply_of state create room) ≡ 0 → IsInUse state (Destroy head)
+        → next_state (next_state state create room) destroy later ≡ state }
 {}
 
 /// The change of an accepted command is sound in a valid state, so that it is really made.

@@ -1,5 +1,5 @@
 use Rattle.std.proofs.Common.{rules}
-use Rattle.cap_table.specs.Verdicts.{verdict_of}
+use Rattle.cap_table.specs.Answers.{verdict_of}
 use Rattle.admin_dev.proofs.AnswerLemmas.{reply_never_no_memory, decision_only_obeyed}
 use Rattle.admin_dev.proofs.device.Device.decide.Goals as goal
 
