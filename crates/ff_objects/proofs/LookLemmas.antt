@@ -19,7 +19,8 @@ size_within Ipv6 = omega arith
 size_within Tcp = omega arith
 size_within Udp = omega arith
 
-entries_within : (list : List SelectorParts) → All IsWhole list → length (written (flat_map selector_fields list)) ≤ 48 * length list
+entries_within : (list : List SelectorParts) → All IsWhole list
+    → length (written (flat_map selector_fields list)) ≤ 48 * length list
 entries_within [] whole = omega arith
 entries_within (s ∷ list) whole =
     let more = entries_within list (λ k d below. whole (suc k) d (omega arith)) in
@@ -28,8 +29,10 @@ entries_within (s ∷ list) whole =
     let parts = length-append (written (selector_fields s)) (written (flat_map selector_fields list)) in
     omega (arith, more, here, joined, parts, entry-length s, size_within s.kind)
 
-pub classifier_fits : (list : List SelectorParts) → All IsWhole list → length list ≤ 3 → length (written (object_fields (classifier_data list))) ≤ most_command_bytes
+pub classifier_fits : (list : List SelectorParts) → All IsWhole list → length list ≤ 3
+    → length (written (object_fields (classifier_data list))) ≤ most_command_bytes
 classifier_fits list whole few = omega (arith, entries_within list whole)
 
-pub rule_fits : (rule : RuleParts) → length rule.key ≤ 74 → length (written (object_fields (rule_data rule))) ≤ most_command_bytes
+pub rule_fits : (rule : RuleParts) → length rule.key ≤ 74
+    → length (written (object_fields (rule_data rule))) ≤ most_command_bytes
 rule_fits rule fits = omega (arith, fits, ap length (append-nil rule.key))

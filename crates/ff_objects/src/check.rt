@@ -6,6 +6,7 @@ ghost use Rattle.ff_headers.specs.Changes.{is_sound};
 ghost use Rattle.cap_table.specs.Caps.{AtMost};
 ghost use Rattle.cap_table.specs.Verdicts.{first_verdict, command_rows};
 ghost use Rattle.cap_table.specs.Answers.{ChangesObjects, change_of};
+ghost use Rattle.ff_objects.specs.Drops.{DropsUnnamed};
 
 use crate::create::created;
 use crate::destroy::destroyed;
@@ -17,8 +18,8 @@ use ff_headers::Change;
 use ff_store::Store;
 
 impl Objects {
-    /// The change that a create, a modify or a destroy makes, or the verdict of the first row that holds. No call walks
-    /// the rules.
+    /// The change that a create, a modify or a destroy makes, or the verdict of the first row that holds. A group or a
+    /// classifier that a rule names is never dropped.
     #[tactic(auto, using(crate::proofs::CheckLemmas::check_sound, crate::proofs::CheckLemmas::check_refuses))]
     pub fn check(
         &self,
@@ -33,6 +34,7 @@ impl Objects {
             ≡ first_verdict (command_rows device.now driver.now self.now.objects command.now) }
         ensures change { IfOk result (λ change. change_of command.now ≡ Some change) }
         ensures sound { IfOk result (λ change. is_sound self.now.limits self.now.objects change ≡ true) }
+        ensures unnamed { IfOk result (λ change. DropsUnnamed self.now.objects change) }
         ensures never_zero { IfErr result (λ verdict. verdict.status ≢ 0) }
     {
         change_of(&self.store, command, device, driver)

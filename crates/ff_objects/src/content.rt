@@ -4,7 +4,8 @@ ghost use Rattle.std.specs.Prelude.{◌≡◌, if◌then◌else◌, Some, None, 
 ghost use Rattle.ff_headers.specs.Shapes.{shape_fault};
 ghost use Rattle.ff_headers.specs.declared.change.Change.TheVariants as changes;
 ghost use Rattle.cap_table.specs.Answers.{rule_parts};
-ghost use Rattle.cap_table.specs.Verdicts.{unless_refused, group_rows, classifier_rows, rule_rows, rule_faults, selectors_in};
+ghost use Rattle.cap_table.specs.Verdicts.{unless_refused, group_rows, classifier_rows, selectors_in};
+ghost use Rattle.cap_table.specs.Verdicts.{rule_rows, rule_faults};
 
 use crate::rule::rule_in;
 use admin_wire::{RawList, RawRule};

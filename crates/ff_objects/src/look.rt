@@ -25,8 +25,9 @@ use ff_headers::{RuleAction, RuleObj, Selector, Selectors};
 use ff_store::Store;
 
 impl Objects {
-    /// The data of the object that a query asks for, in the bytes of the create that would put it, or the verdict of the
-    /// first row that holds. Reserved bytes are 0; a selector's flags and a rule's virtqueue index are as they were put.
+    /// The data of the object that a query asks for, in the bytes of the create that would put it, or the verdict of
+    /// the first row that holds. Reserved bytes are 0; a selector's flags and a rule's virtqueue index are as they were
+    /// put.
     pub fn look(&self, head: &ObjHead) -> Result<ArrayVec<u8, 264>, Verdict>
         ensures refused { (caps : CapsParts) (driver : DriverParts) → result_err result
             ≡ first_verdict (command_rows caps driver self.now.objects (Query head.now)) }

@@ -20,10 +20,13 @@ returns-in_ok-check_held-in-Rule-clause-refused c =
     let same : c.is_some-in-Rule.result ≡ is_some (object_under objects.rules head.id) = search rules in
     let none = ap (λ held. first_verdict ((not held, no_object) ∷ [])) (sym same)
     ∙ (sym c.check_held-in-Rule.ensures ∙ ap result_err c.in_ok-check_held-in-Rule.was) in
-    subst (λ (o : ObjData). result_err c.rule_put.result ≡ first_verdict (command_rows caps driver objects (Modify head o))) (sym c.in-Rule.is)
-    (refuses (rule_rows (rule_faults caps driver objects head.id c.in-Rule.rule)) _ _ c.rule_put.ensures ∙ held_rule caps driver objects head c.in-Rule.rule zero none)
+    let rows = rule_rows (rule_faults caps driver objects head.id c.in-Rule.rule) in
+    let of_modify = λ (o : ObjData). command_rows caps driver objects (Modify head o) in
+    subst (λ (o : ObjData). result_err c.rule_put.result ≡ first_verdict (of_modify o)) (sym c.in-Rule.is)
+    (refuses rows _ _ c.rule_put.ensures ∙ held_rule caps driver objects head c.in-Rule.rule zero none)
 
 pub returns-in_ok-check_held-in-Rule-clause-change : goal.returns-in_ok-check_held-in-Rule-clause-change
 returns-in_ok-check_held-in-Rule-clause-change c =
-    puts (rule_rows (rule_faults c.args.device.now c.args.driver.now c.args.store.now.objects c.args.head.now.id c.in-Rule.rule)) _ _ c.rule_put.ensures _
-    (ap (put_of c.args.head.now.id) c.in-Rule.is)
+    let id = c.args.head.now.id in
+    let faults = rule_faults c.args.device.now c.args.driver.now c.args.store.now.objects id c.in-Rule.rule in
+    puts (rule_rows faults) _ _ c.rule_put.ensures _ (ap (put_of id) c.in-Rule.is)
