@@ -1,13 +1,16 @@
 -- The numbers of a script's lines have 32 bits, and the lines of its items are read one after another.
-use Rattle.std.proofs.Common.{◌≡◌, ℕ, ◌+◌, ◌<◌, ◌≤◌, ◌^◌, List, [], ◌∷◌, ◌++◌, length, Result, Ok, Err, refl, sym, ap, ◌∙◌, append_assoc, append-nil, arith}
+use Rattle.std.proofs.Common.{◌≡◌, ℕ, ◌+◌, ◌<◌, ◌≤◌, ◌^◌, List, [], ◌∷◌, ◌++◌, length, Option, Some, None, Result, Ok, Err, refl, sym, ap, ◌∙◌, append_assoc, append-nil, arith}
+use Rattle.std.specs.Prelude.{IfSome, MatchOption}
 use Rattle.std.specs.Str.Lines.{lines}
-use Rattle.std.proofs.lemmas.List.Elements.{All-weaker, All-same, All-head, All-tail}
+use Rattle.std.proofs.lemmas.List.Elements.{All-weaker, All-same, All-nil, All-head, All-tail}
 use Rattle.vnff_base.specs.Lines.{NumberedLine, UnreadLines, unread_from, numbered_from}
+use Rattle.vnff_base.specs.declared.text.Line.{Line}
 use Rattle.vnff_base.proofs.TextLaws.{numbered_from-numbers, length-lines-le}
 use Rattle.vnff_run.specs.Inputs.{file_limit}
-use Rattle.vnff_run.specs.Readings.{HasSmallNumbers, IsFaultOf}
+use Rattle.vnff_run.specs.Readings.{HasSmallNumbers, IsFaultOf, lines_from, numbered}
 use Rattle.vnff_run.specs.Results.{◌>>=◌}
-use Rattle.vnff_run.specs.Script.{at_line, item_of, items_of}
+use Rattle.vnff_run.specs.Grammar.{at_line, items_of}
+use Rattle.vnff_run.specs.ItemLines.{item_of}
 use Rattle.vnff_run.specs.declared.script.Item.{Item}
 use Rattle.vnff_run.specs.declared.script.Reason.{Reason}
 use Rattle.vnff_run.specs.declared.script.ScriptFault.{ScriptFault}
@@ -69,8 +72,17 @@ items_of-stop (faults.Bad number reason) items left lines line spelled cut same 
 items_of-stop faults.Memory items left lines line spelled cut same is = tt
 
 -- no line is left
-pub items_of-end : (items : List Item) (left : List NumberedLine) → left ≡ [] → with_front items (items_of left) ≡ Ok items
+pub items_of-end : (items : List Item) (next : Option Line) (left : List NumberedLine) → next ≡ None → with_front items (items_of (lines_from next left)) ≡ Ok items
 unfolding items_of
-items_of-end items left none = rw none (ap Ok (append-nil items))
+items_of-end items next left none = rw none (ap Ok (append-nil items))
 
-pub ruleset item_steps = (small_first, small_rest, with_front-none, items_of-more, items_of-stop, items_of-end)
+-- what a reader gives next, and what it leaves
+pub next_lines : (old new : UnreadLines) (next : Option Line) → MatchOption next ((old.left ≡ []) × (new.left ≡ [])) (λ line. old.left ≡ numbered line ∷ new.left) → lines_from next new.left ≡ old.left
+next_lines old new None is = sym is.0
+next_lines old new (Some line) is = sym is
+
+pub next_small : (old new : UnreadLines) (next : Option Line) → MatchOption next ((old.left ≡ []) × (new.left ≡ [])) (λ line. old.left ≡ numbered line ∷ new.left) → new.missing ≡ old.missing → HasSmallNumbers old → IfSome next (λ line. line.number < 2 ^ 32) × HasSmallNumbers new
+next_small old new None is same small =
+    (tt, record { left = All-same IsSmall _ _ is.1 (All-nil IsSmall); missing = omega (arith, same, small.missing) })
+next_small old new (Some line) is same small =
+    (small_first old new.left (numbered line) is small, small_rest old new (numbered line) is same small)

@@ -7,7 +7,7 @@ use Rattle.vnff_run.specs.Endings.{ReadStops, ReadsInput, script_stop}
 use Rattle.vnff_run.specs.Inputs.{InputFault, bytes_in, script_in, script_or_refusal}
 use Rattle.vnff_run.specs.Readings.{IsFaultOf}
 use Rattle.vnff_run.specs.Results.{◌>>=◌}
-use Rattle.vnff_run.specs.Built.{built_script_of}
+use Rattle.vnff_run.specs.Grammar.{script_of}
 use Rattle.vnff_run.specs.declared.script.Script.{Script}
 use Rattle.vnff_run.specs.declared.script.ScriptFault.{ScriptFault}
 use Rattle.vnff_run.specs.declared.script.ScriptFault.TheVariants as faults
@@ -29,14 +29,14 @@ read_stops shelf shelf_new part next stops.WriteFault why = why
 read_stops shelf shelf_new part next stops.Memory why = why
 
 -- the bytes of a file are a script
-pub script_read : (shelf shelf_new : ShelfState) (name bytes text : List ℕ) (script : Script) → ReadsInput shelf shelf_new (bytes_in kinds.Script name) (Ok bytes) → text ≡ bytes → built_script_of text ≡ Ok script → ReadsInput shelf shelf_new (script_in name) (Ok script)
+pub script_read : (shelf shelf_new : ShelfState) (name bytes text : List ℕ) (script : Script) → ReadsInput shelf shelf_new (bytes_in kinds.Script name) (Ok bytes) → text ≡ bytes → script_of text ≡ Ok script → ReadsInput shelf shelf_new (script_in name) (Ok script)
 unfolding script_in
 script_read shelf shelf_new name bytes text script read same is =
-    (read.0, IfSome_then shelf.files read.1 (λ files is_there. ap (λ p. p >>= λ b. script_or_refusal (built_script_of b)) (is_there ∙ ap Ok (sym same)) ∙ ap script_or_refusal is))
+    (read.0, IfSome_then shelf.files read.1 (λ files is_there. ap (λ p. p >>= λ b. script_or_refusal (script_of b)) (is_there ∙ ap Ok (sym same)) ∙ ap script_or_refusal is))
 
 -- or they are refused, or memory runs out
-pub script_stops : (shelf shelf_new : ShelfState) (name bytes text : List ℕ) (fault : ScriptFault) → ReadsInput shelf shelf_new (bytes_in kinds.Script name) (Ok bytes) → text ≡ bytes → IsFaultOf (built_script_of text) fault → ReadStops shelf shelf_new (script_in name) (script_stop fault)
+pub script_stops : (shelf shelf_new : ShelfState) (name bytes text : List ℕ) (fault : ScriptFault) → ReadsInput shelf shelf_new (bytes_in kinds.Script name) (Ok bytes) → text ≡ bytes → IsFaultOf (script_of text) fault → ReadStops shelf shelf_new (script_in name) (script_stop fault)
 unfolding script_in
 script_stops shelf shelf_new name bytes text (faults.Bad line reason) read same is =
-    (read.0, IfSome_then shelf.files read.1 (λ files is_there. ap (λ p. p >>= λ b. script_or_refusal (built_script_of b)) (is_there ∙ ap Ok (sym same)) ∙ ap script_or_refusal is))
+    (read.0, IfSome_then shelf.files read.1 (λ files is_there. ap (λ p. p >>= λ b. script_or_refusal (script_of b)) (is_there ∙ ap Ok (sym same)) ∙ ap script_or_refusal is))
 script_stops shelf shelf_new name bytes text faults.Memory read same is = read.0

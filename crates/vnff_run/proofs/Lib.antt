@@ -1,5 +1,12 @@
 mod EndingLemmas
+mod GrammarExamples
 mod GrammarLemmas
 mod InputLemmas
 mod ReplayLemmas
 mod Rows
+mod ScriptReadBack
+mod SelectLemmas
+mod SpelledLines
+mod TextLines
+mod WordReadBack
+mod WrittenScripts

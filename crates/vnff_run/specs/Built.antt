@@ -1,7 +1,7 @@
--- The scripts that the program can run, of those that the grammar has. The other commands, and classifiers of other
--- headers than Ethernet's, are not built yet.
-use Rattle.std.specs.Prelude.{ℕ, Bool, true, false, not, ◌&&◌, ◌||◌, ◌==◌, if◌then◌else◌, List, Option, Some, None, Result, Ok, Err}
-use Rattle.std.specs.List.{list_all, list_any}
+-- The commands that the program can carry out. The others, and classifiers of other headers than Ethernet's, are not
+-- built yet.
+use Rattle.std.specs.Prelude.{ℕ, Bool, true, false, not, ◌&&◌, ◌||◌, ◌==◌, List, Option, Some, None, Result, Ok}
+use Rattle.std.specs.List.{list_any}
 use Rattle.ff_headers.specs.Kinds.{kind_code}
 use Rattle.admin_wire.specs.declared.command.Command.{Command}
 use Rattle.admin_wire.specs.declared.command.Command.TheVariants.{Create}
@@ -10,13 +10,7 @@ use Rattle.admin_wire.specs.declared.command.RawList.TheVariants.{Good}
 use Rattle.admin_wire.specs.declared.error.WireErr.{WireErr}
 use Rattle.admin_wire.specs.Wire.{command_of}
 use Rattle.admin_wire.specs.Headers.{opcode_of}
-use Rattle.vnff_run.specs.Script.{script_of}
 use Rattle.cap_table.specs.States.{all_opcodes, is_opcode_in}
-use Rattle.vnff_run.specs.declared.script.Item.{Item}
-use Rattle.vnff_run.specs.declared.script.Item.TheVariants.{Admin, Frame}
-use Rattle.vnff_run.specs.declared.script.Reason.{Reason}
-use Rattle.vnff_run.specs.declared.script.Reason.TheVariants.{Unbuilt}
-use Rattle.vnff_run.specs.declared.script.Script.{Script}
 
 -- the opcode of a create (Virtio 1.4 draft, VIRTIO_ADMIN_CMD_RESOURCE_OBJ_CREATE)
 abbrev pub create_opcode : ℕ
@@ -36,17 +30,3 @@ is_built_opcode (Some opcode) = (opcode == create_opcode) || not (is_opcode_in a
 -- creates no classifier of further headers.
 unfoldable pub is_built_command : List ℕ → Bool
 is_built_command bytes = is_built_opcode (opcode_of bytes) && not (selects_further (command_of bytes))
-
--- The program can do what the item asks for.
-abbrev pub is_built : Item → Bool
-is_built (Admin line) = is_built_command line.bytes
-is_built (Frame _) = true
-
--- a script, where the program can run it; what is refused names no line yet
-abbrev pub if_built : Result Script (ℕ × Reason) → Result Script (ℕ × Reason)
-if_built (Ok script) = if list_all is_built script.items then Ok script else Err (0, Unbuilt)
-if_built (Err fault) = Err (0, Unbuilt)
-
--- the script that a text spells and that the program can run, or the refusal
-abbrev pub built_script_of : List ℕ → Result Script (ℕ × Reason)
-built_script_of text = if_built (script_of text)

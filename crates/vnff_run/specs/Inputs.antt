@@ -2,7 +2,7 @@
 use Rattle.std.specs.Prelude.{ℕ, List, length, Option, Some, None, Result, Ok, Err, nat_lt, if◌then◌else◌}
 use Rattle.vnff_base.specs.Shelves.{Files}
 use Rattle.vnff_run.specs.Results.{◌>>=◌}
-use Rattle.vnff_run.specs.Built.{built_script_of}
+use Rattle.vnff_run.specs.Grammar.{script_of}
 use Rattle.vnff_run.specs.declared.script.Script.{Script}
 use Rattle.vnff_run.specs.declared.script.Reason.{Reason}
 use Rattle.vnff_run.specs.declared.stop.FileKind.{FileKind}
@@ -35,4 +35,4 @@ script_or_refusal (Err fault) = Err (Refused (BadScript fault.0 fault.1))
 
 -- the script in the file of that name
 unfoldable pub script_in : List ℕ → Files → Result Script InputFault
-script_in name files = bytes_in kinds.Script name files >>= λ bytes. script_or_refusal (built_script_of bytes)
+script_in name files = bytes_in kinds.Script name files >>= λ bytes. script_or_refusal (script_of bytes)

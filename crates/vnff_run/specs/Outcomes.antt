@@ -1,11 +1,11 @@
 -- What a run of the program ends with, this project's own: a status, and the text that it writes.
-use Rattle.std.specs.Prelude.{ℕ, List, [], ◌++◌, codes, Option, Some, None, Result, Ok, Err}
+use Rattle.std.specs.Prelude.{ℕ, List, [], ◌++◌, codes, decimal, Option, Some, None, Result, Ok, Err}
 use Rattle.vnff_base.specs.Shelves.{Files}
 use Rattle.vnff_run.specs.Forms.{WordForm, Replay, form_of}
 use Rattle.vnff_run.specs.Inputs.{InputFault, Missing, Refused, script_in}
 use Rattle.vnff_run.specs.Replay.{replay_text, line_feed}
 use Rattle.vnff_run.specs.declared.script.Reason.{Reason}
-use Rattle.vnff_run.specs.declared.script.Reason.TheVariants.{Unbuilt}
+use Rattle.vnff_run.specs.declared.script.Reason.TheVariants as reasons
 use Rattle.vnff_run.specs.declared.stop.FileKind.{FileKind}
 use Rattle.vnff_run.specs.declared.stop.FileKind.TheVariants as kinds
 use Rattle.vnff_run.specs.declared.stop.RefusedInput.{RefusedInput}
@@ -47,14 +47,26 @@ kind_word kinds.Script = codes "script"
 
 -- why a script is refused, in a refusal's line
 abbrev pub reason_word : Reason → List ℕ
-reason_word Unbuilt = codes "unbuilt"
+reason_word reasons.Version = codes "version"
+reason_word reasons.Device = codes "device"
+reason_word reasons.Number = codes "number"
+reason_word reasons.Select = codes "select"
+reason_word reasons.Hex = codes "hex"
+reason_word reasons.Room = codes "room"
+reason_word reasons.Word = codes "word"
+reason_word reasons.Start = codes "start"
+reason_word reasons.Unbuilt = codes "unbuilt"
+
+-- which line of a script is bad, and why
+unfoldable pub fault_words : ℕ → Reason → List ℕ
+fault_words line reason = codes "script:" ++ (decimal line ++ (codes " " ++ reason_word reason))
 
 -- what is refused, and why: the rest of a refusal's line
 unfoldable pub refusal_words : RefusedInput → List ℕ
 refusal_words (TooLong kind) = kind_word kind ++ codes " too-long"
-refusal_words (BadScript line reason) = codes "script " ++ reason_word reason
+refusal_words (BadScript line reason) = fault_words line reason
 
--- the line of a refusal; no line of a script is named yet
+-- the line of a refusal
 unfoldable pub refusal_line : RefusedInput → List ℕ
 refusal_line refusal = codes "refused " ++ (refusal_words refusal ++ line_feed)
 

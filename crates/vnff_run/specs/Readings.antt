@@ -1,6 +1,7 @@
 -- What readers of scripts answer that find a fault, of which memory may run out, and what they know of line numbers.
-use Rattle.std.specs.Prelude.{ℕ, ◌≡◌, ◌<◌, ◌^◌, All, Result, Err, ⊤}
-use Rattle.vnff_base.specs.Lines.{UnreadLines}
+use Rattle.std.specs.Prelude.{ℕ, ◌≡◌, ◌<◌, ◌^◌, All, List, [], ◌∷◌, Option, Some, None, Result, Err, ⊤}
+use Rattle.vnff_base.specs.Lines.{NumberedLine, UnreadLines, words_of}
+use Rattle.vnff_base.specs.declared.text.Line.{Line}
 use Rattle.vnff_run.specs.declared.script.LineFault.{LineFault}
 use Rattle.vnff_run.specs.declared.script.LineFault.TheVariants as line_faults
 use Rattle.vnff_run.specs.declared.script.Reason.{Reason}
@@ -26,3 +27,12 @@ fault_at line_faults.Memory line = faults.Memory
 pub record HasSmallNumbers (unread : UnreadLines) : Type 0 where
   pub left : All (λ line. line.number < 2 ^ 32) unread.left
   pub missing : unread.missing < 2 ^ 32
+
+-- a line, as definitions see it
+abbrev pub numbered : Line → NumberedLine
+numbered line = record { number = line.number; words = words_of line.text.now }
+
+-- the line that was taken already and those that are left behind it; where there was none, none is left
+abbrev pub lines_from : Option Line → List NumberedLine → List NumberedLine
+lines_from None left = []
+lines_from (Some line) left = numbered line ∷ left

@@ -1,12 +1,13 @@
 //! Exit statuses, and the lines of refusals: what the end of a form is turned into.
 
-ghost use Rattle.std.specs.Prelude.{◌≡◌};
+ghost use Rattle.std.specs.Prelude.{◌≡◌, decimal};
 ghost use Rattle.vnff_base.specs.Outputs.{Writes};
 ghost use Rattle.vnff_run.specs.Endings.{IsStatusOf, WritesRefusal};
-ghost use Rattle.vnff_run.specs.Outcomes.{kind_word, reason_word, refusal_line, refusal_words};
+ghost use Rattle.vnff_run.specs.Outcomes.{fault_words, kind_word, reason_word, refusal_line, refusal_words};
 
 use crate::script::Reason;
 use crate::stop::{FileKind, RefusedInput, Stop};
+use itoa::Buffer;
 use vnff_base::{Failed, Out};
 
 /// The exit status where everything was done.
@@ -70,11 +71,27 @@ fn put_refusal_words<O: Out>(out: &mut O, input: RefusedInput) -> Result<(), Fai
             out.put(kind_word(kind))?;
             out.put(b" too-long")
         }
-        RefusedInput::BadScript(_, reason) => {
-            out.put(b"script ")?;
-            out.put(reason_word(reason))
-        }
+        RefusedInput::BadScript(line, reason) => put_fault(out, line, reason),
     }
+}
+
+/// Writes which line of a script is bad, and why.
+#[tactic(auto, unfolding(crate::specs::Outcomes::fault_words))]
+fn put_fault<O: Out>(out: &mut O, line: u32, reason: Reason) -> Result<(), Failed>
+    ensures { Writes (O.state out.old) (O.state out.new) (fault_words line reason) result }
+{
+    out.put(b"script:")?;
+    put_number(out, line)?;
+    out.put(b" ")?;
+    out.put(reason_word(reason))
+}
+
+/// Writes a number.
+fn put_number<O: Out>(out: &mut O, number: u32) -> Result<(), Failed>
+    ensures { Writes (O.state out.old) (O.state out.new) (decimal number) result }
+{
+    let mut buffer = Buffer::new();
+    out.put(buffer.format(number).as_bytes())
 }
 
 /// What a file was to be, in words.
@@ -86,11 +103,19 @@ fn kind_word(kind: FileKind) -> &'static [u8]
     }
 }
 
-/// Why a script is refused, in words.
+/// What is wrong with a line of a script, in words.
 fn reason_word(reason: Reason) -> &'static [u8]
     ensures { result.now ≡ reason_word reason }
 {
     match reason {
+        Reason::Version => b"version",
+        Reason::Device => b"device",
+        Reason::Number => b"number",
+        Reason::Select => b"select",
+        Reason::Hex => b"hex",
+        Reason::Room => b"room",
+        Reason::Word => b"word",
+        Reason::Start => b"start",
         Reason::Unbuilt => b"unbuilt",
     }
 }

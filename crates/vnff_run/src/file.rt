@@ -4,7 +4,7 @@ ghost use Rattle.std.specs.Prelude.{◌≡◌, ◌≤◌, length, IfOk};
 ghost use Rattle.vnff_run.specs.Endings.{ReadsInput};
 ghost use Rattle.vnff_run.specs.Inputs.{bytes_in, file_limit, script_in};
 
-use crate::built::read_script;
+use crate::grammar::read_script;
 use crate::script::Script;
 use crate::stop::{FileKind, RefusedInput, Stop};
 use std::alloc::Global;

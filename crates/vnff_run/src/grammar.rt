@@ -1,37 +1,60 @@
 //! Scripts, read from their text: line by line, and each line's words from left to right, each once.
 
-ghost use Rattle.std.specs.Prelude.{◌≡◌, ◌<◌, ◌≤◌, ◌^◌, ◌∷◌, [], length, IfOk, IfSome, MatchOption, MatchResult};
+ghost use Rattle.std.specs.Prelude.{◌≡◌, ◌<◌, ◌≤◌, ◌^◌, [], length, IfOk, IfSome, MatchResult, OnOk};
+ghost use Rattle.ff_headers.specs.Kinds.{kind_code};
+ghost use Rattle.ff_headers.specs.SelectorParts.{IsWhole};
 ghost use Rattle.vnff_base.specs.Lines.{words_of};
+ghost use Rattle.cap_table.specs.Caps.{AreSelectors};
+ghost use Rattle.vnff_run.specs.Grammar.{after_version, at_line, device_in, items_of, script_of, script_of_lines};
+ghost use Rattle.vnff_run.specs.Grammar.{selectors_in, with_selectors};
 ghost use Rattle.vnff_run.specs.Inputs.{file_limit};
-ghost use Rattle.vnff_run.specs.Readings.{HasSmallNumbers, IsFaultOf, IsLineFaultOf};
-ghost use Rattle.vnff_run.specs.Script.{admin_of, after_version, at_line, bytes_within, caps_of, device_in};
-ghost use Rattle.vnff_run.specs.Script.{device_number, device_of, frame_of, is_version, item_of, items_of};
-ghost use Rattle.vnff_run.specs.Script.{number_within, script_of, start_of};
+ghost use Rattle.vnff_run.specs.ItemLines.{item_of};
+ghost use Rattle.vnff_run.specs.Readings.{HasSmallNumbers, IsFaultOf, lines_from};
+ghost use Rattle.vnff_run.specs.ScriptTexts.{script_text};
+ghost use Rattle.vnff_run.specs.SelectLines.{selector_of};
+ghost use Rattle.vnff_run.specs.Spellable.{IsSpellable};
+ghost use Rattle.vnff_run.specs.declared.script.Script.{Script as SomeScript};
 
-use crate::script::{AdminLine, DeviceLine, Item, LineFault, Reason, Script, ScriptFault};
-use admin_dev::Start;
+use crate::device_line::{device_of, is_version};
+use crate::item_line::item_of;
+use crate::script::{DeviceLine, Item, Reason, Script, ScriptFault};
+use crate::select_line::{behind_select, selector_of};
+use arrayvec::ArrayVec;
 use cap_table::DeviceCaps;
-use ff_headers::Limits;
+use ff_headers::Selector;
 use std::alloc::Global;
-use vnff_base::hex::{HexErr, hex_read};
-use vnff_base::text::{Line, LineReader, first_word};
-use vnff_base::{List, num_read};
+use vnff_base::List;
+use vnff_base::text::{Line, LineReader};
 
-/// The script of a text, or its first fault.
-#[tactic(auto, unfolding(crate::specs::Script::script_of_lines), using(crate::proofs::GrammarLemmas::small_lines))]
-pub fn script_of(alloc: Global, text: &[u8]) -> Result<Script, ScriptFault>
-    requires { length text.now ≤ file_limit }
-    ensures { MatchResult result (λ script. script_of text.now ≡ Ok script) (IsFaultOf (script_of text.now)) }
+/// The script that the bytes spell, at most 67,108,864 of them, or its first fault.
+pub fn read_script(alloc: Global, bytes: &[u8]) -> Result<Script, ScriptFault>
+    requires { length bytes.now ≤ file_limit }
+    ensures read { MatchResult result (λ script. script_of bytes.now ≡ Ok script) (IsFaultOf (script_of bytes.now)) }
+    // The canonical text of a script is read as that script.
+    ensures written { (script : SomeScript) → IsSpellable script → bytes.now ≡ script_text script
+        → MatchResult result (λ read. read ≡ script) (λ fault. fault ≡ ScriptFault.Memory) }
 {
-    let mut reader = LineReader::new(text);
-    read_version(&mut reader)?;
-    let DeviceLine { caps, start } = read_device(&mut reader)?;
-    let items = read_items(alloc, &mut reader)?;
+    read_lines(alloc, &mut LineReader::new(bytes))
+}
+
+/// Reads all lines of a script.
+#[tactic(auto, unfolding(crate::specs::Grammar::script_of_lines))]
+fn read_lines(alloc: Global, reader: &mut LineReader) -> Result<Script, ScriptFault>
+    requires { HasSmallNumbers reader.old }
+    ensures { let spelled = script_of_lines reader.old.missing reader.old.left in
+        MatchResult result (λ script. spelled ≡ Ok script) (IsFaultOf spelled) }
+{
+    read_version(reader)?;
+    let DeviceLine { caps, start } = read_device(reader)?;
+    let mut selectors = ArrayVec::new();
+    let first = read_selectors(alloc, reader, &mut selectors)?;
+    let items = read_items(alloc, first, reader)?;
+    let caps = with_selectors(caps, selectors);
     Ok(Script { caps, start, items })
 }
 
 /// Reads the version's line.
-#[tactic(auto, unfolding(crate::specs::Script::after_version), using(crate::proofs::GrammarLemmas::small_numbers))]
+#[tactic(auto, unfolding(crate::specs::Grammar::after_version), using(crate::proofs::GrammarLemmas::small_numbers))]
 fn read_version(reader: &mut LineReader) -> Result<(), ScriptFault>
     requires { HasSmallNumbers reader.old }
     ensures read { let spelled = after_version reader.old.missing reader.old.left in
@@ -40,16 +63,16 @@ fn read_version(reader: &mut LineReader) -> Result<(), ScriptFault>
     ensures small { HasSmallNumbers reader.new }
 {
     let Some(line) = reader.next_line() else {
-        return Err(Reason::Unbuilt.at(reader.missing()));
+        return Err(Reason::Version.at(reader.missing()));
     };
     if !is_version(line.text) {
-        return Err(Reason::Unbuilt.at(line.number));
+        return Err(Reason::Version.at(line.number));
     }
     Ok(())
 }
 
 /// Reads the device's line.
-#[tactic(auto, unfolding(crate::specs::Script::device_in), using(crate::proofs::GrammarLemmas::small_numbers))]
+#[tactic(auto, unfolding(crate::specs::Grammar::device_in), using(crate::proofs::GrammarLemmas::small_numbers))]
 fn read_device(reader: &mut LineReader) -> Result<DeviceLine, ScriptFault>
     requires { HasSmallNumbers reader.old }
     ensures read { let spelled = device_in reader.old.missing reader.old.left in
@@ -57,22 +80,83 @@ fn read_device(reader: &mut LineReader) -> Result<DeviceLine, ScriptFault>
     ensures small { HasSmallNumbers reader.new }
 {
     let Some(line) = reader.next_line() else {
-        return Err(Reason::Unbuilt.at(reader.missing()));
+        return Err(Reason::Device.at(reader.missing()));
     };
     device_of(line.text).map_err(|reason| reason.at(line.number))
 }
 
-/// Reads the lines of items, which are all that are left.
-#[tactic(auto, using(crate::proofs::GrammarLemmas::item_steps))]
-fn read_items(alloc: Global, reader: &mut LineReader) -> Result<List<Item>, ScriptFault>
-    requires { HasSmallNumbers reader.old }
-    ensures { MatchResult result (λ items. items_of reader.old.left ≡ Ok items)
-        (IsFaultOf (items_of reader.old.left)) }
+/// Reads the lines of selectors, and gives the line behind them.
+#[tactic(auto, using(crate::proofs::SelectLemmas::select_steps))]
+fn read_selectors<'a>(
+    alloc: Global,
+    reader: &mut LineReader<'a>,
+    selectors: &mut ArrayVec<Selector, 5>,
+) -> Result<Option<Line<'a>>, ScriptFault>
+    requires none { selectors.old.items ≡ [] }
+    requires small { HasSmallNumbers reader.old }
+    ensures read { let spelled = selectors_in 0 reader.old.left in
+        MatchResult result (λ first. spelled ≡ Ok (selectors.new.items, lines_from first reader.new.left))
+        (IsFaultOf spelled) }
+    ensures good { OnOk result (AreSelectors selectors.new.items) }
+    ensures small { HasSmallNumbers reader.new }
+    ensures first_small { IfOk result (λ first. IfSome first (λ line. line.number < 2 ^ 32)) }
+{
+    let mut last = 0;
+    while let Some(line) = reader.next_line() {
+        let Some(rest) = behind_select(line.text) else {
+            return Ok(Some(line));
+        };
+        let selector = read_selector(alloc, last, line.number, rest)?;
+        last = selector.kind().code();
+        selectors.push(selector);
+    }
+    Ok(None)
+}
+
+/// Reads the words behind `select` of a line with this number.
+fn read_selector(
+    alloc: Global,
+    last: u8,
+    number: u64,
+    words: &[u8],
+) -> Result<Selector, ScriptFault>
+    requires { number < 2 ^ 32 }
+    ensures read { let spelled = at_line number (selector_of last (words_of words.now)) in
+        MatchResult result (λ selector. spelled ≡ Ok selector) (IsFaultOf spelled) }
+    ensures above { IfOk result (λ selector. last < kind_code selector.kind) }
+    ensures whole { IfOk result IsWhole }
+{
+    selector_of(alloc, last, words).map_err(|fault| fault.at(number))
+}
+
+/// The device with the selectors that lines name, if there are any.
+fn with_selectors(caps: DeviceCaps, selectors: ArrayVec<Selector, 5>) -> DeviceCaps
+    requires { AreSelectors selectors.items }
+    ensures { result ≡ with_selectors caps selectors.items }
+{
+    if selectors.is_empty() {
+        return caps;
+    }
+    DeviceCaps::new(caps.pairs(), *caps.limits(), selectors)
+}
+
+/// Reads the lines of items, from the first on, which are all that are left.
+fn read_items(
+    alloc: Global,
+    first: Option<Line<'_>>,
+    reader: &mut LineReader,
+) -> Result<List<Item>, ScriptFault>
+    requires small { HasSmallNumbers reader.old }
+    requires first_small { IfSome first (λ line. line.number < 2 ^ 32) }
+    ensures { let lines = lines_from first.entry reader.old.left in
+        MatchResult result (λ items. items_of lines ≡ Ok items) (IsFaultOf (items_of lines)) }
 {
     let mut items = List::new(alloc);
-    while let Some(line) = reader.next_line() {
+    let mut next = first;
+    while let Some(line) = next {
         let item = read_item(alloc, line)?;
         items.push(item)?;
+        next = reader.next_line();
     }
     Ok(items)
 }
@@ -84,216 +168,4 @@ fn read_item(alloc: Global, line: Line<'_>) -> Result<Item, ScriptFault>
         MatchResult result (λ item. spelled ≡ Ok item) (IsFaultOf spelled) }
 {
     item_of(alloc, line.text).map_err(|fault| fault.at(line.number))
-}
-
-/// Whether the line is `vnff 1`.
-#[tactic(auto, unfolding(crate::specs::Script::is_version))]
-fn is_version(line: &[u8]) -> bool
-    ensures { result ≡ is_version (words_of line.now) }
-{
-    match two_words(line) {
-        Some((name, version)) => name == b"vnff".as_slice() && version == b"1".as_slice(),
-        None => false,
-    }
-}
-
-/// The device of a line `device PAIRS GROUPS CLASSIFIERS RULES PERGROUP LAST SELECTORS START`.
-#[tactic(auto, unfolding(crate::specs::Script::device_of))]
-fn device_of(line: &[u8]) -> Result<DeviceLine, Reason>
-    ensures { result ≡ device_of (words_of line.now) }
-{
-    let Some(words) = device_words(line) else {
-        return Err(Reason::Unbuilt);
-    };
-    if words.name != b"device".as_slice() {
-        return Err(Reason::Unbuilt);
-    }
-    let start = start_of(words.start)?;
-    let caps = caps_of(&words)?;
-    Ok(DeviceLine { caps, start })
-}
-
-/// The words of a device's line.
-#[derive(Clone, Copy)]
-struct DeviceWords<'a> {
-    name: &'a [u8],
-    pairs: &'a [u8],
-    groups: &'a [u8],
-    classifiers: &'a [u8],
-    rules: &'a [u8],
-    per_group: &'a [u8],
-    last_priority: &'a [u8],
-    selectors: &'a [u8],
-    start: &'a [u8],
-}
-
-/// The words of a line that has as many as a device's.
-fn device_words(line: &[u8]) -> Option<DeviceWords<'_>>
-    ensures { MatchOption result (length (words_of line.now) ≡ 9 → ⊥)
-        (λ w. words_of line.now ≡ w.name.now ∷ w.pairs.now ∷ w.groups.now ∷ w.classifiers.now ∷ w.rules.now
-        ∷ w.per_group.now ∷ w.last_priority.now ∷ w.selectors.now ∷ w.start.now ∷ []) }
-{
-    let (name, rest) = first_word(line)?;
-    let (pairs, rest) = first_word(rest)?;
-    let (groups, rest) = first_word(rest)?;
-    let (classifiers, rest) = first_word(rest)?;
-    let (rules, rest) = first_word(rest)?;
-    let (per_group, rest) = first_word(rest)?;
-    let (last_priority, rest) = first_word(rest)?;
-    let (selectors, start) = two_words(rest)?;
-    Some(DeviceWords {
-        name,
-        pairs,
-        groups,
-        classifiers,
-        rules,
-        per_group,
-        last_priority,
-        selectors,
-        start,
-    })
-}
-
-/// How a word says that a device starts.
-#[tactic(auto, unfolding(crate::specs::Script::start_of))]
-fn start_of(word: &[u8]) -> Result<Start, Reason>
-    ensures { result ≡ start_of word.now }
-{
-    if word == b"ready".as_slice() {
-        Ok(Start::Ready)
-    } else {
-        Err(Reason::Unbuilt)
-    }
-}
-
-/// The capabilities that a device's line spells.
-#[tactic(auto, unfolding(crate::specs::Script::caps_of))]
-fn caps_of(words: &DeviceWords<'_>) -> Result<DeviceCaps, Reason>
-    ensures { let w = words.now in
-        result ≡ caps_of w.pairs.now w.groups.now w.classifiers.now w.rules.now w.per_group.now
-        w.last_priority.now w.selectors.now }
-{
-    let pairs = device_number(1, 16, words.pairs)?;
-    let groups = device_number(0, 16, words.groups)?;
-    let classifiers = device_number(0, 64, words.classifiers)?;
-    let rules = device_number(0, 1024, words.rules)?;
-    let per_group = device_number(0, 1024, words.per_group)?;
-    let last_priority = device_number(0, 255, words.last_priority)?;
-    let selectors = device_number(0, 3, words.selectors)?;
-    let limits = Limits {
-        groups: groups as u32,
-        classifiers: classifiers as u32,
-        rules: rules as u32,
-        per_group: per_group as u32,
-        last_priority: last_priority as u8,
-        selectors: selectors as u8,
-    };
-    Ok(DeviceCaps::with_all_selectors(pairs as u8, limits))
-}
-
-/// A number of a device's line.
-#[tactic(auto, unfolding(crate::specs::Script::device_number))]
-fn device_number(low: u64, high: u64, word: &[u8]) -> Result<u64, Reason>
-    ensures value { result ≡ device_number low high word.now }
-    ensures least { IfOk result (λ number. low ≤ number) }
-    ensures most { IfOk result (λ number. number ≤ high) }
-{
-    number_within(low, high, word).ok_or(Reason::Unbuilt)
-}
-
-/// The number that a word spells, within a range.
-#[tactic(auto, unfolding(crate::specs::Script::number_within))]
-fn number_within(low: u64, high: u64, word: &[u8]) -> Option<u64>
-    ensures value { result ≡ number_within low high word.now }
-    ensures least { IfSome result (λ number. low ≤ number) }
-    ensures most { IfSome result (λ number. number ≤ high) }
-{
-    let number = num_read(word)?;
-    if number < low || high < number {
-        return None;
-    }
-    Some(number)
-}
-
-/// The item of a line.
-#[tactic(auto, unfolding(crate::specs::Script::item_of))]
-fn item_of(alloc: Global, line: &[u8]) -> Result<Item, LineFault>
-    ensures { MatchResult result (λ item. item_of (words_of line.now) ≡ Ok item)
-        (IsLineFaultOf (item_of (words_of line.now))) }
-{
-    let Some((name, words)) = first_word(line) else {
-        return Err(LineFault::Bad(Reason::Unbuilt));
-    };
-    if name == b"admin".as_slice() {
-        admin_of(alloc, words)
-    } else if name == b"frame".as_slice() {
-        frame_of(alloc, words)
-    } else {
-        Err(LineFault::Bad(Reason::Unbuilt))
-    }
-}
-
-/// The command of a line `admin HEX ROOM`, behind its first word.
-#[tactic(auto, unfolding(crate::specs::Script::admin_of))]
-fn admin_of(alloc: Global, line: &[u8]) -> Result<Item, LineFault>
-    ensures { MatchResult result (λ item. admin_of (words_of line.now) ≡ Ok item)
-        (IsLineFaultOf (admin_of (words_of line.now))) }
-{
-    let Some((hex, room)) = two_words(line) else {
-        return Err(LineFault::Bad(Reason::Unbuilt));
-    };
-    let bytes = bytes_within(alloc, 1, 1024, hex)?;
-    let room = number_within(0, 4096, room).ok_or(Reason::Unbuilt)? as u32;
-    Ok(Item::Admin(AdminLine { bytes, room }))
-}
-
-/// The frame of a line `frame HEX`, behind its first word.
-#[tactic(auto, unfolding(crate::specs::Script::frame_of))]
-fn frame_of(alloc: Global, line: &[u8]) -> Result<Item, LineFault>
-    ensures { MatchResult result (λ item. frame_of (words_of line.now) ≡ Ok item)
-        (IsLineFaultOf (frame_of (words_of line.now))) }
-{
-    let Some(hex) = one_word(line) else {
-        return Err(LineFault::Bad(Reason::Unbuilt));
-    };
-    Ok(Item::Frame(bytes_within(alloc, 0, 262_144, hex)?))
-}
-
-/// The bytes that a word spells in hexadecimal, so many at least and at most.
-#[tactic(auto, unfolding(crate::specs::Script::bytes_within))]
-fn bytes_within(alloc: Global, low: usize, high: usize, word: &[u8]) -> Result<List<u8>, LineFault>
-    ensures { MatchResult result (λ bytes. bytes_within low high word.now ≡ Ok bytes)
-        (IsLineFaultOf (bytes_within low high word.now)) }
-{
-    let bytes = match hex_read(alloc, word) {
-        Ok(bytes) => bytes,
-        Err(HexErr::NotHex) => return Err(LineFault::Bad(Reason::Unbuilt)),
-        Err(HexErr::Memory) => return Err(LineFault::Memory),
-    };
-    if bytes.len() < low || high < bytes.len() {
-        return Err(LineFault::Bad(Reason::Unbuilt));
-    }
-    Ok(List::from(bytes))
-}
-
-/// The word of a line that has one.
-fn one_word(line: &[u8]) -> Option<&[u8]>
-    ensures { MatchOption result (length (words_of line.now) ≡ 1 → ⊥)
-        (λ word. words_of line.now ≡ word.now ∷ []) }
-{
-    let (word, rest) = first_word(line)?;
-    match first_word(rest) {
-        Some(_) => None,
-        None => Some(word),
-    }
-}
-
-/// The words of a line that has two.
-fn two_words(line: &[u8]) -> Option<(&[u8], &[u8])>
-    ensures { MatchOption result (length (words_of line.now) ≡ 2 → ⊥)
-        (λ words. words_of line.now ≡ words.0.now ∷ words.1.now ∷ []) }
-{
-    let (first, rest) = first_word(line)?;
-    let second = one_word(rest)?;
-    Some((first, second))
 }

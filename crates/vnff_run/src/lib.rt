@@ -7,32 +7,38 @@
 //!
 //! What is promised, on `plain` itself: where the shelf tells its files and the output tells its bytes, the status and
 //! what was written are the outcome that is defined for the words and the files; a failed read or write, and want of
-//! memory, end a run earlier, and then a front of the defined text was written. [`read_script`] is the part of the
-//! grammar that is built.
+//! memory, end a run earlier, and then a front of the defined text was written. [`read_script`] gives the script that a
+//! text spells, or its first fault, and reads the canonical text of a script as that script.
 //!
 //! The way of a run: `form` (what the words ask for), a module for each form (`replay`), which reads its files by
 //! `file` and runs, and `ending` (its status, and the line of a refusal); `stop` has why a form ends early. Scripts
-//! are read by `grammar`; `built` keeps back what can't be run yet. `steering` is a device with its tables.
+//! are read by `grammar`, line by line: `device_line` (the first two lines), `select_line` and `item_line`, over the
+//! words that `word` reads; `built` has which commands can be carried out yet. `steering` is a device with its tables.
 //!
 //! Definitions, in specs/: `Forms` (of words), `Inputs` (what the files give, or what is at fault with them) and
-//! `Outcomes` (statuses and texts, form by form); `Script` (the grammar), `Built` (what of it can be run) and
-//! `Replay` (texts). `Readings`, `Endings`, `Results` and `Steering` are the code's own. Worked rows stand in
-//! `proofs/Rows.antt`.
+//! `Outcomes` (statuses and texts, form by form); `Grammar` (scripts), `DeviceLines`, `SelectLines` and `ItemLines`
+//! (their lines), `Words`, `Built`; `ScriptTexts` (canonical texts) and `Spellable` (which scripts have one); `Replay`
+//! (what a replay writes). `Readings`, `Endings`, `Results` and `Steering` are the code's own. Worked rows stand in
+//! `proofs/Rows.antt`, faulty texts in `proofs/GrammarExamples.antt`.
 #![tactic(auto)]
 
 mod built;
+mod device_line;
 mod ending;
 mod file;
 mod form;
 mod grammar;
+mod item_line;
 mod program;
 mod replay;
 mod script;
+mod select_line;
 mod steering;
 mod stop;
 mod text;
+mod word;
 
-pub use built::read_script;
-pub use ending::{FAULTY_WORDS, NO_MEMORY};
+pub use ending::{DONE, FAULTY_WORDS, NO_MEMORY, READ_FAULT, REFUSED, WRITE_FAULT};
+pub use grammar::read_script;
 pub use program::plain;
 pub use script::{AdminLine, Item, Reason, Script, ScriptFault};

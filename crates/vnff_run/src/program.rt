@@ -1,7 +1,8 @@
 //! The program's call: words in, files read, a text written, and a status.
 
 ghost use Rattle.std.specs.Prelude.{◌≡◌, ◌≤◌, ◌⊎◌, ◌↔◌, None, IsSomeAnd, map, string_bytes};
-ghost use Rattle.vnff_run.specs.Endings.{FormEnds, Appended, AppendedFront, AppendedNothing, NoReadFailed, NoWriteFailed, ReadFailed, WhereTold, WriteFailed};
+ghost use Rattle.vnff_run.specs.Endings.{FormEnds, Appended, AppendedFront, AppendedNothing, NoReadFailed, NoWriteFailed};
+ghost use Rattle.vnff_run.specs.Endings.{ReadFailed, WhereTold, WriteFailed};
 ghost use Rattle.vnff_run.specs.Forms.{form_of, form_view};
 ghost use Rattle.vnff_run.specs.Outcomes.{outcome_in, outcome_of};
 
@@ -67,70 +68,5 @@ fn run<S: Shelf, O: Out>(
 {
     match form {
         Form::Replay(script) => replay(alloc, script, shelf, out),
-    }
-}
-
-#[cfg(test)]
-mod tests {
-    use super::*;
-    use crate::ending::{DONE, WRITE_FAULT};
-    use std::alloc::AllocError;
-    use std::test::Fail;
-    use vnff_base::{MemOut, MemShelf};
-
-    // A group, a classifier and a rule are created, and a frame goes to the rule's queue.
-    const SCRIPT: &[u8] = b"\
-        vnff 1\n\
-        device 4 2 4 8 8 15 3 ready\n\
-        admin 0a0000000000000000000000000000000000000000000000000200000100000000000000000000000500 8\n\
-        admin 0a0000000000000000000000000000000000000000000000010200000700000000000000000000000100000000000000010000000e000000000000000000000000000000ffff 8\n\
-        admin 0a0000000000000000000000000000000000000000000000020200000900000000000000000000000100000007000000000e0200020000000000000000000000000000000800 8\n\
-        frame ffffffffffff0200000000010800\n\
-        ";
-
-    const WRITTEN: &[u8] = b"\
-        reply 0000000000000000\n\
-        reply 0000000000000000\n\
-        reply 0000000000000000\n\
-        frame queue 1\n\
-        ";
-
-    fn words(alloc: Global, form: &str, name: &str) -> Result<Vec<String>, AllocError> {
-        let form = String::from_str(alloc, form)?;
-        let name = String::from_str(alloc, name)?;
-        Ok(vec![in alloc; form, name]?)
-    }
-
-    fn shelf(alloc: Global) -> Result<MemShelf, AllocError> {
-        let mut shelf = MemShelf::new(alloc);
-        shelf.add("script", SCRIPT)?;
-        Ok(shelf)
-    }
-
-    #[test]
-    fn replays_a_script(rt: HostRuntime) -> Result<(), Fail> {
-        let alloc = rt.alloc();
-        let mut out = MemOut::new(alloc, 1024)?;
-        let words = words(alloc, "replay", "script")?;
-        assert_eq!(rt;
-            plain(alloc, words.as_slice(), &mut shelf(alloc)?, &mut out),
-            DONE
-        );
-        assert_eq!(rt; out.bytes(), WRITTEN);
-        Ok(())
-    }
-
-    #[test]
-    fn ends_where_the_first_write_fails(rt: HostRuntime) -> Result<(), Fail> {
-        let alloc = rt.alloc();
-        let mut out = MemOut::new(alloc, 1024)?;
-        out.fail_at(0)?;
-        let words = words(alloc, "replay", "script")?;
-        assert_eq!(rt;
-            plain(alloc, words.as_slice(), &mut shelf(alloc)?, &mut out),
-            WRITE_FAULT
-        );
-        assert!(rt; WRITTEN.starts_with(out.bytes()));
-        Ok(())
     }
 }

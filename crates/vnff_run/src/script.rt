@@ -41,17 +41,33 @@ pub struct DeviceLine {
     pub start: Start,
 }
 
-/// Why a text is no script that the program can run.
+/// What is wrong with a line of a script.
 #[derive(Clone, Copy, Debug, PartialEq, Eq)]
 pub enum Reason {
-    /// It isn't in the part of the grammar that is built.
+    /// The first line isn't the version's.
+    Version,
+    /// The second line isn't the device's.
+    Device,
+    /// A number of the device's line is none, or out of its range.
+    Number,
+    /// A line `select` names no selector, or one whose type is not above the last one's.
+    Select,
+    /// The bytes of a command or a frame are none, or too few or too many.
+    Hex,
+    /// The room for a reply is no number, or too large.
+    Room,
+    /// The first word is unknown, or comes too late, or there are not as many words as there must be.
+    Word,
+    /// A file of a device alone starts it otherwise than ready.
+    Start,
+    /// The program can't carry the command out yet.
     Unbuilt,
 }
 
 /// Why no script was read.
 #[derive(Clone, Copy, Debug, PartialEq, Eq)]
 pub enum ScriptFault {
-    /// The line, or 0 for the whole text, and the reason.
+    /// The line, and the reason.
     Bad(u32, Reason),
     /// Memory ran out.
     Memory,

@@ -20,7 +20,7 @@ pub enum FileKind {
 pub enum RefusedInput {
     /// A file is longer than any that is read.
     TooLong(FileKind),
-    /// A file is no script that the program can run: the line, or 0 for the whole text, and the reason.
+    /// A file is no script: the line, and the reason.
     BadScript(u32, Reason),
 }
 

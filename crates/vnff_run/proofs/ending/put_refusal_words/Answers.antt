@@ -7,17 +7,7 @@ unfolding refusal_words
 returns-in_err-put-in-TooLong g c =
     rw (c.in-TooLong.is, ← c.kind_word.ensures) (writes_stopped _ _ c.from_residual.ensures.1 (stopped_before c.in_err-put-in-TooLong.ensures _))
 
-pub returns-in_err-put-in-BadScript : goal.returns-in_err-put-in-BadScript
-unfolding refusal_words
-returns-in_err-put-in-BadScript g c =
-    rw c.in-BadScript.is (writes_stopped _ _ c.from_residual-in_err-put-in-BadScript.ensures.1 (stopped_before c.in_err-put-in-BadScript.ensures _))
-
 pub returns-in_ok-put-in-TooLong : goal.returns-in_ok-put-in-TooLong
 unfolding refusal_words
 returns-in_ok-put-in-TooLong g c =
     rw (c.in-TooLong.is, ← c.kind_word.ensures) (writes_after _ _ _ c.in_ok-put-in-TooLong.ensures c.put-in-TooLong.ensures)
-
-pub returns-in_ok-put-in-BadScript : goal.returns-in_ok-put-in-BadScript
-unfolding refusal_words
-returns-in_ok-put-in-BadScript g c =
-    rw (c.in-BadScript.is, ← c.reason_word.ensures) (writes_after _ _ _ c.in_ok-put-in-BadScript.ensures c.put-in-BadScript-2.ensures)

@@ -1,0 +1,104 @@
+-- Texts that are no scripts, each with its first fault, computed from the definitions.
+use Rattle.std.proofs.Common.{◌≡◌, ℕ, codes, Err, refl}
+use Prim.Native.String.{String}
+use Rattle.std.specs.Fmt.{digits}
+use Rattle.vnff_base.specs.Hex.{hex_bytes}
+use Rattle.vnff_base.specs.Numbers.{number_of}
+use Rattle.vnff_base.specs.Lines.{words_of}
+use Rattle.byte_numbers.specs.Numbers.{le16_at, le32_at, le64_at}
+use Rattle.admin_wire.specs.Headers.{header_of, opcode_of}
+use Rattle.vnff_run.specs.Built.{is_built_command}
+use Rattle.vnff_run.specs.DeviceLines.{is_version, start_of, caps_of, device_of}
+use Rattle.vnff_run.specs.Grammar.{after_version, device_in, selectors_in, items_of, script_of, script_of_lines}
+use Rattle.vnff_run.specs.ItemLines.{admin_of, frame_of, item_of}
+use Rattle.vnff_run.specs.SelectLines.{is_select, kind_named, flags_named, selector_of}
+use Rattle.vnff_run.specs.Words.{number_within, bytes_within}
+use Rattle.vnff_run.specs.declared.script.Reason.{Reason}
+use Rattle.vnff_run.specs.declared.script.Reason.TheVariants.{Version, Device, Number, Select, Hex, Room, Word, Unbuilt}
+
+abbrev IsRefused : String → ℕ → Reason → Type 0
+IsRefused text line reason = script_of (codes text) ≡ Err (line, reason)
+
+-- a text of no bytes lacks its first line
+no_bytes : IsRefused "" 1 Version
+unfolding words_of is_version after_version script_of_lines
+no_bytes = refl
+
+-- a line that is skipped is counted
+comment_alone : IsRefused "#\n" 2 Version
+unfolding words_of is_version after_version script_of_lines
+comment_alone = refl
+
+another_version : IsRefused "vnff 2\n" 1 Version
+unfolding words_of is_version after_version script_of_lines
+another_version = refl
+
+-- the line of the device is missing
+no_device : IsRefused "vnff 1" 2 Device
+unfolding words_of is_version after_version script_of_lines device_in
+no_device = refl
+
+-- the start is looked at before the numbers
+start_before_numbers : IsRefused "vnff 1\ndevice 4 2 4 8 8 15 4 Ready\n" 2 Device
+unfolding words_of is_version after_version script_of_lines device_of device_in start_of caps_of number_within digits number_of
+start_before_numbers = refl
+
+-- a number out of its range
+four_selectors : IsRefused "vnff 1\ndevice 4 2 4 8 8 15 4 ready\nframe f\n" 2 Number
+unfolding words_of is_version after_version script_of_lines device_of device_in start_of caps_of number_within digits number_of
+four_selectors = refl
+
+leading_zero : IsRefused "vnff 1\ndevice 4 2 4 08 8 15 3 ready\n" 2 Number
+unfolding words_of is_version after_version script_of_lines device_of device_in start_of caps_of number_within digits number_of
+leading_zero = refl
+
+-- a mask of another size than the header's
+short_mask : IsRefused "vnff 1\ndevice 4 2 4 8 8 15 3 ready\nselect ipv4 whole 00\n" 3 Select
+unfolding words_of is_version after_version script_of_lines device_of device_in start_of caps_of number_within digits number_of is_select selectors_in selector_of kind_named flags_named bytes_within hex_bytes
+short_mask = refl
+
+-- types rise strictly
+types_rise : IsRefused "vnff 1\ndevice 4 2 4 8 8 15 3 ready\nselect eth whole 000000000000000000000000ffff\n# again\nselect eth whole 000000000000000000000000ffff\n" 5 Select
+unfolding words_of is_version after_version script_of_lines device_of device_in start_of caps_of number_within digits number_of is_select selectors_in selector_of kind_named flags_named bytes_within hex_bytes
+types_rise = refl
+
+-- a selector line behind a frame
+late_selector : IsRefused "vnff 1\ndevice 4 2 4 8 8 15 3 ready\nframe -\nselect eth whole 000000000000000000000000ffff\n" 4 Word
+unfolding words_of is_version after_version script_of_lines device_of device_in start_of caps_of number_within digits number_of is_select selectors_in selector_of kind_named flags_named bytes_within hex_bytes items_of item_of admin_of frame_of
+late_selector = refl
+
+odd_digits : IsRefused "vnff 1\ndevice 4 2 4 8 8 15 3 ready\nframe f\n" 3 Hex
+unfolding words_of is_version after_version script_of_lines device_of device_in start_of caps_of number_within digits number_of is_select selectors_in selector_of kind_named flags_named bytes_within hex_bytes items_of item_of admin_of frame_of
+odd_digits = refl
+
+-- bytes before the room
+hex_before_room : IsRefused "vnff 1\ndevice 4 2 4 8 8 15 3 ready\nadmin 0 4097\n" 3 Hex
+unfolding words_of is_version after_version script_of_lines device_of device_in start_of caps_of number_within digits number_of is_select selectors_in selector_of kind_named flags_named bytes_within hex_bytes items_of item_of admin_of frame_of
+hex_before_room = refl
+
+-- a command of no bytes
+no_command : IsRefused "vnff 1\ndevice 4 2 4 8 8 15 3 ready\nadmin - 8\n" 3 Hex
+unfolding words_of is_version after_version script_of_lines device_of device_in start_of caps_of number_within digits number_of is_select selectors_in selector_of kind_named flags_named bytes_within hex_bytes items_of item_of admin_of frame_of
+no_command = refl
+
+large_room : IsRefused "vnff 1\ndevice 4 2 4 8 8 15 3 ready\nadmin 0a 4097\n" 3 Room
+unfolding words_of is_version after_version script_of_lines device_of device_in start_of caps_of number_within digits number_of is_select selectors_in selector_of kind_named flags_named bytes_within hex_bytes items_of item_of admin_of frame_of
+large_room = refl
+
+-- the number of words before all else
+words_first : IsRefused "vnff 1\ndevice 4 2 4 8 8 15 3 ready\nadmin f\n" 3 Word
+unfolding words_of is_version after_version script_of_lines device_of device_in start_of caps_of number_within digits number_of is_select selectors_in selector_of kind_named flags_named bytes_within hex_bytes items_of item_of admin_of frame_of
+words_first = refl
+
+unknown_word : IsRefused "vnff 1\ndevice 4 2 4 8 8 15 3 ready\nframe -\nnothing\n" 4 Word
+unfolding words_of is_version after_version script_of_lines device_of device_in start_of caps_of number_within digits number_of is_select selectors_in selector_of kind_named flags_named bytes_within hex_bytes items_of item_of admin_of frame_of
+unknown_word = refl
+
+-- a command that isn't built, and that its other faults come first
+destroy : IsRefused "vnff 1\ndevice 4 2 4 8 8 15 3 ready\nadmin 0d0000000000000000000000000000000000000000000000 8\n" 3 Unbuilt
+unfolding words_of is_version after_version script_of_lines device_of device_in start_of caps_of number_within digits number_of is_select selectors_in selector_of kind_named flags_named bytes_within hex_bytes items_of item_of admin_of frame_of is_built_command header_of opcode_of le16_at le32_at le64_at
+destroy = refl
+
+room_of_destroy : IsRefused "vnff 1\ndevice 4 2 4 8 8 15 3 ready\nadmin 0d0000000000000000000000000000000000000000000000 4097\n" 3 Room
+unfolding words_of is_version after_version script_of_lines device_of device_in start_of caps_of number_within digits number_of is_select selectors_in selector_of kind_named flags_named bytes_within hex_bytes items_of item_of admin_of frame_of is_built_command header_of opcode_of le16_at le32_at le64_at
+room_of_destroy = refl

@@ -1,0 +1,9 @@
+use Rattle.vnff_run.proofs.GrammarLemmas.{small_lines}
+use Rattle.vnff_run.proofs.WrittenScripts.{written_script}
+use Rattle.vnff_run.proofs.grammar.read_script.Goals as goal
+
+pub read_lines-requires : goal.read_lines-requires
+read_lines-requires c = small_lines c.args.bytes.now c.new.result c.requires c.new.ensures
+
+pub returns-clause-written : goal.returns-clause-written
+returns-clause-written c = written_script c.args.bytes.now c.new.result c.read_lines.result c.new.ensures c.read_lines.ensures

@@ -1,0 +1,15 @@
+use Rattle.std.proofs.Common.{◌≡◌, length}
+use Rattle.vnff_run.specs.Grammar.{selectors_in}
+use Rattle.vnff_run.specs.Readings.{HasSmallNumbers}
+use Rattle.vnff_run.proofs.SelectLemmas.{RiseTo, behind}
+use Rattle.vnff_run.proofs.grammar.read_selectors.Given as goal
+
+abbrev pub invariant-loop-line : goal.invariant-loop-line
+invariant-loop-line l = record {
+  same : behind l.selectors.items (selectors_in l.last l.reader.left) ≡ selectors_in 0 l.initial.reader.left;
+  rise : RiseTo l.last l.selectors.items;
+  small : HasSmallNumbers l.reader;
+}
+
+abbrev pub decreases-loop-line : goal.decreases-loop-line
+decreases-loop-line l = length l.reader.left

@@ -1,0 +1,39 @@
+-- The scripts that a text can spell: what lies within the limits of the grammar. This project's own.
+use Rattle.std.specs.Prelude.{ℕ, ◌≡◌, ◌≤◌, true, List, length, All}
+use Rattle.ff_headers.specs.SelectorParts.{SelectorParts}
+use Rattle.vnff_base.specs.Bytes.{IsBytes}
+use Rattle.cap_table.specs.Caps.{AreCaps}
+use Rattle.vnff_run.specs.Built.{is_built_command}
+use Rattle.vnff_run.specs.declared.script.AdminLine.{AdminLine}
+use Rattle.vnff_run.specs.declared.script.Item.{Item}
+use Rattle.vnff_run.specs.declared.script.Item.TheVariants.{Admin, Frame}
+use Rattle.vnff_run.specs.declared.script.Script.{Script}
+
+-- a selector that a line can name: of the flags, bit 0 alone may be set
+pub record IsNamed (selector : SelectorParts) : Type 0 where
+  pub flags : selector.flags ≤ 1
+  pub mask : IsBytes selector.mask
+
+-- a command of 1 to 1,024 bytes with a room of at most 4,096, which the program can carry out
+pub record IsCommand (line : AdminLine) : Type 0 where
+  pub some : 1 ≤ length line.bytes
+  pub most : length line.bytes ≤ 1024
+  pub bytes : IsBytes line.bytes
+  pub room : line.room ≤ 4096
+  pub built : is_built_command line.bytes ≡ true
+
+-- a frame of at most 262,144 bytes
+pub record IsFrame (frame : List ℕ) : Type 0 where
+  pub most : length frame ≤ 262144
+  pub bytes : IsBytes frame
+
+abbrev pub IsItem : Item → Type 0
+IsItem (Admin line) = IsCommand line
+IsItem (Frame frame) = IsFrame frame
+
+-- a device that has a selector, within its limits, and items within theirs
+pub record IsSpellable (script : Script) : Type 0 where
+  pub caps : AreCaps script.caps
+  pub some_selector : 1 ≤ length script.caps.selectors
+  pub named : All IsNamed script.caps.selectors
+  pub items : All IsItem script.items

@@ -1,0 +1,59 @@
+//! Lines of items: `admin HEX ROOM` and `frame HEX`.
+
+ghost use Rattle.std.specs.Prelude.{◌≡◌, MatchResult};
+ghost use Rattle.vnff_base.specs.Lines.{words_of};
+ghost use Rattle.vnff_run.specs.ItemLines.{admin_of, frame_of, item_of};
+ghost use Rattle.vnff_run.specs.Readings.{IsLineFaultOf};
+
+use crate::built::is_built_command;
+use crate::script::{AdminLine, Item, LineFault, Reason};
+use crate::word::{bytes_within, number_within, one_word, two_words};
+use std::alloc::Global;
+use vnff_base::text::first_word;
+
+/// The item of a line.
+#[tactic(auto, unfolding(crate::specs::ItemLines::item_of))]
+pub(crate) fn item_of(alloc: Global, line: &[u8]) -> Result<Item, LineFault>
+    ensures { MatchResult result (λ item. item_of (words_of line.now) ≡ Ok item)
+        (IsLineFaultOf (item_of (words_of line.now))) }
+{
+    let Some((name, words)) = first_word(line) else {
+        return Err(LineFault::Bad(Reason::Word));
+    };
+    if name == b"admin".as_slice() {
+        admin_of(alloc, words)
+    } else if name == b"frame".as_slice() {
+        frame_of(alloc, words)
+    } else {
+        Err(LineFault::Bad(Reason::Word))
+    }
+}
+
+/// The command of a line `admin HEX ROOM`, behind its first word.
+#[tactic(auto, unfolding(crate::specs::ItemLines::admin_of))]
+fn admin_of(alloc: Global, line: &[u8]) -> Result<Item, LineFault>
+    ensures { MatchResult result (λ item. admin_of (words_of line.now) ≡ Ok item)
+        (IsLineFaultOf (admin_of (words_of line.now))) }
+{
+    let Some((hex, room)) = two_words(line) else {
+        return Err(LineFault::Bad(Reason::Word));
+    };
+    let bytes = bytes_within(alloc, Reason::Hex, 1, 1024, hex)?;
+    let room = number_within(Reason::Room, 0, 4096, room)? as u32;
+    if !is_built_command(bytes.as_slice()) {
+        return Err(LineFault::Bad(Reason::Unbuilt));
+    }
+    Ok(Item::Admin(AdminLine { bytes, room }))
+}
+
+/// The frame of a line `frame HEX`, behind its first word.
+#[tactic(auto, unfolding(crate::specs::ItemLines::frame_of))]
+fn frame_of(alloc: Global, line: &[u8]) -> Result<Item, LineFault>
+    ensures { MatchResult result (λ item. frame_of (words_of line.now) ≡ Ok item)
+        (IsLineFaultOf (frame_of (words_of line.now))) }
+{
+    let Some(hex) = one_word(line) else {
+        return Err(LineFault::Bad(Reason::Word));
+    };
+    Ok(Item::Frame(bytes_within(alloc, Reason::Hex, 0, 262_144, hex)?))
+}
