@@ -1,7 +1,7 @@
 -- The first two lines of a script, the version's and the device's. This project's own.
 use Rattle.std.specs.Prelude.{ℕ, Bool, false, not, ◌&&◌, if◌then◌else◌, List, [], ◌∷◌, codes, Result, Ok, Err}
 use Rattle.std.specs.Str.{bytes_eq}
-use Rattle.cap_table.specs.Caps.{CapsParts, all_selectors}
+use Rattle.cap_table.specs.Caps.{CapsParts, all_selectors, greatest_limits}
 use Rattle.cap_table.specs.declared.start.Start.{Start}
 use Rattle.cap_table.specs.declared.start.Start.TheVariants.{Ready, Reset}
 use Rattle.vnff_run.specs.Results.{◌>>=◌}
@@ -31,12 +31,12 @@ start_of word =
 unfoldable pub caps_of : List ℕ → List ℕ → List ℕ → List ℕ → List ℕ → List ℕ → List ℕ → Result CapsParts Reason
 caps_of pairs groups classifiers rules per_group last_priority selectors = do
   p ← number_within Number 1 16 pairs
-  g ← number_within Number 0 16 groups
-  c ← number_within Number 0 64 classifiers
-  r ← number_within Number 0 1024 rules
-  m ← number_within Number 0 1024 per_group
-  l ← number_within Number 0 255 last_priority
-  s ← number_within Number 0 3 selectors
+  g ← number_within Number 0 greatest_limits.groups groups
+  c ← number_within Number 0 greatest_limits.classifiers classifiers
+  r ← number_within Number 0 greatest_limits.rules rules
+  m ← number_within Number 0 greatest_limits.per_group per_group
+  l ← number_within Number 0 greatest_limits.last_priority last_priority
+  s ← number_within Number 0 greatest_limits.selectors selectors
   Ok (record {
     pairs = p;
     limits = record { groups = g; classifiers = c; rules = r; per_group = m; last_priority = l; selectors = s };

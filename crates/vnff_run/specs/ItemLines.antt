@@ -1,31 +1,38 @@
 -- The lines of a script's items, this project's own: `admin HEX ROOM` and `frame HEX`.
 use Rattle.std.specs.Prelude.{ℕ, if◌then◌else◌, List, [], ◌∷◌, codes, Result, Ok, Err}
 use Rattle.std.specs.Str.{bytes_eq}
-use Rattle.vnff_run.specs.Built.{is_built_command}
 use Rattle.vnff_run.specs.Results.{◌>>=◌}
 use Rattle.vnff_run.specs.Words.{bytes_within, number_within}
 use Rattle.vnff_run.specs.declared.script.AdminLine.{AdminLine}
 use Rattle.vnff_run.specs.declared.script.Item.{Item}
 use Rattle.vnff_run.specs.declared.script.Item.TheVariants.{Admin, Frame}
 use Rattle.vnff_run.specs.declared.script.Reason.{Reason}
-use Rattle.vnff_run.specs.declared.script.Reason.TheVariants.{Hex, Room, Word, Unbuilt}
+use Rattle.vnff_run.specs.declared.script.Reason.TheVariants.{Hex, Room, Word}
 
--- a command that the program can carry out
-abbrev pub if_built : AdminLine → Result Item Reason
-if_built line = if is_built_command line.bytes then Ok (Admin line) else Err Unbuilt
+-- the most bytes of a command
+abbrev pub most_command : ℕ
+most_command = 1024
 
--- `admin HEX ROOM`, by the words behind `admin`: a command of 1 to 1,024 bytes, and the room for its reply
+-- the most bytes of room for a reply
+abbrev pub most_room : ℕ
+most_room = 4096
+
+-- the most bytes of a frame
+abbrev pub most_frame : ℕ
+most_frame = 262144
+
+-- `admin HEX ROOM`, by the words behind `admin`: a command, which has bytes, and the room for its reply
 unfoldable pub admin_of : List (List ℕ) → Result Item Reason
 admin_of (hex ∷ room ∷ []) = do
-  bytes ← bytes_within Hex 1 1024 hex
-  n ← number_within Room 0 4096 room
-  if_built (record { bytes = bytes; room = n })
+  bytes ← bytes_within Hex 1 most_command hex
+  n ← number_within Room 0 most_room room
+  Ok (Admin (record { bytes = bytes; room = n }))
 admin_of _ = Err Word
 
--- `frame HEX`, by the words behind `frame`: a frame of at most 262,144 bytes
+-- `frame HEX`, by the words behind `frame`
 unfoldable pub frame_of : List (List ℕ) → Result Item Reason
 frame_of (hex ∷ []) = do
-  bytes ← bytes_within Hex 0 262144 hex
+  bytes ← bytes_within Hex 0 most_frame hex
   Ok (Frame bytes)
 frame_of _ = Err Word
 

@@ -1,4 +1,3 @@
-pub mod Built
 pub mod DeviceLines
 pub mod Endings
 pub mod Forms

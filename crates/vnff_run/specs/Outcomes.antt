@@ -55,7 +55,6 @@ reason_word reasons.Hex = codes "hex"
 reason_word reasons.Room = codes "room"
 reason_word reasons.Word = codes "word"
 reason_word reasons.Start = codes "start"
-reason_word reasons.Unbuilt = codes "unbuilt"
 
 -- which line of a script is bad, and why
 unfoldable pub fault_words : ℕ → Reason → List ℕ

@@ -1,9 +1,9 @@
 -- The scripts that a text can spell: what lies within the limits of the grammar. This project's own.
-use Rattle.std.specs.Prelude.{ℕ, ◌≡◌, ◌≤◌, true, List, length, All}
+use Rattle.std.specs.Prelude.{ℕ, ◌≤◌, List, length, All}
 use Rattle.ff_headers.specs.SelectorParts.{SelectorParts}
 use Rattle.vnff_base.specs.Bytes.{IsBytes}
 use Rattle.cap_table.specs.Caps.{AreCaps}
-use Rattle.vnff_run.specs.Built.{is_built_command}
+use Rattle.vnff_run.specs.ItemLines.{most_command, most_room, most_frame}
 use Rattle.vnff_run.specs.declared.script.AdminLine.{AdminLine}
 use Rattle.vnff_run.specs.declared.script.Item.{Item}
 use Rattle.vnff_run.specs.declared.script.Item.TheVariants.{Admin, Frame}
@@ -14,17 +14,16 @@ pub record IsNamed (selector : SelectorParts) : Type 0 where
   pub flags : selector.flags ≤ 1
   pub mask : IsBytes selector.mask
 
--- a command of 1 to 1,024 bytes with a room of at most 4,096, which the program can carry out
+-- a command, which has bytes, with the room for its reply
 pub record IsCommand (line : AdminLine) : Type 0 where
   pub some : 1 ≤ length line.bytes
-  pub most : length line.bytes ≤ 1024
+  pub most : length line.bytes ≤ most_command
   pub bytes : IsBytes line.bytes
-  pub room : line.room ≤ 4096
-  pub built : is_built_command line.bytes ≡ true
+  pub room : line.room ≤ most_room
 
--- a frame of at most 262,144 bytes
+-- a frame that a line can give
 pub record IsFrame (frame : List ℕ) : Type 0 where
-  pub most : length frame ≤ 262144
+  pub most : length frame ≤ most_frame
   pub bytes : IsBytes frame
 
 abbrev pub IsItem : Item → Type 0

@@ -116,6 +116,5 @@ fn reason_word(reason: Reason) -> &'static [u8]
         Reason::Room => b"room",
         Reason::Word => b"word",
         Reason::Start => b"start",
-        Reason::Unbuilt => b"unbuilt",
     }
 }

@@ -5,11 +5,19 @@ ghost use Rattle.vnff_base.specs.Lines.{words_of};
 ghost use Rattle.vnff_run.specs.ItemLines.{admin_of, frame_of, item_of};
 ghost use Rattle.vnff_run.specs.Readings.{IsLineFaultOf};
 
-use crate::built::is_built_command;
 use crate::script::{AdminLine, Item, LineFault, Reason};
 use crate::word::{bytes_within, number_within, one_word, two_words};
 use std::alloc::Global;
 use vnff_base::text::first_word;
+
+/// The most bytes of a command.
+const MOST_COMMAND: usize = 1024;
+
+/// The most bytes of room for a reply.
+const MOST_ROOM: u64 = 4096;
+
+/// The most bytes of a frame.
+const MOST_FRAME: usize = 262_144;
 
 /// The item of a line.
 #[tactic(auto, unfolding(crate::specs::ItemLines::item_of))]
@@ -38,11 +46,8 @@ fn admin_of(alloc: Global, line: &[u8]) -> Result<Item, LineFault>
     let Some((hex, room)) = two_words(line) else {
         return Err(LineFault::Bad(Reason::Word));
     };
-    let bytes = bytes_within(alloc, Reason::Hex, 1, 1024, hex)?;
-    let room = number_within(Reason::Room, 0, 4096, room)? as u32;
-    if !is_built_command(bytes.as_slice()) {
-        return Err(LineFault::Bad(Reason::Unbuilt));
-    }
+    let bytes = bytes_within(alloc, Reason::Hex, 1, MOST_COMMAND, hex)?;
+    let room = number_within(Reason::Room, 0, MOST_ROOM, room)? as u32;
     Ok(Item::Admin(AdminLine { bytes, room }))
 }
 
@@ -55,5 +60,5 @@ fn frame_of(alloc: Global, line: &[u8]) -> Result<Item, LineFault>
     let Some(hex) = one_word(line) else {
         return Err(LineFault::Bad(Reason::Word));
     };
-    Ok(Item::Frame(bytes_within(alloc, Reason::Hex, 0, 262_144, hex)?))
+    Ok(Item::Frame(bytes_within(alloc, Reason::Hex, 0, MOST_FRAME, hex)?))
 }

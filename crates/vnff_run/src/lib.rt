@@ -13,16 +13,15 @@
 //! The way of a run: `form` (what the words ask for), a module for each form (`replay`), which reads its files by
 //! `file` and runs, and `ending` (its status, and the line of a refusal); `stop` has why a form ends early. Scripts
 //! are read by `grammar`, line by line: `device_line` (the first two lines), `select_line` and `item_line`, over the
-//! words that `word` reads; `built` has which commands can be carried out yet. `steering` is a device with its tables.
+//! words that `word` reads. `steering` is a device with its tables.
 //!
 //! Definitions, in specs/: `Forms` (of words), `Inputs` (what the files give, or what is at fault with them) and
 //! `Outcomes` (statuses and texts, form by form); `Grammar` (scripts), `DeviceLines`, `SelectLines` and `ItemLines`
-//! (their lines), `Words`, `Built`; `ScriptTexts` (canonical texts) and `Spellable` (which scripts have one); `Replay`
+//! (their lines), `Words`; `ScriptTexts` (canonical texts) and `Spellable` (which scripts have one); `Replay`
 //! (what a replay writes). `Readings`, `Endings`, `Results` and `Steering` are the code's own. Worked rows stand in
 //! `proofs/Rows.antt`, faulty texts in `proofs/GrammarExamples.antt`.
 #![tactic(auto)]
 
-mod built;
 mod device_line;
 mod ending;
 mod file;

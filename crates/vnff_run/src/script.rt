@@ -60,8 +60,6 @@ pub enum Reason {
     Word,
     /// A file of a device alone starts it otherwise than ready.
     Start,
-    /// The program can't carry the command out yet.
-    Unbuilt,
 }
 
 /// Why no script was read.
