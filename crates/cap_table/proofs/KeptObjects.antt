@@ -240,29 +240,30 @@ put_leaves state head object change none is typed next after =
     ∙ subst (λ (t : ℕ). object_data (with_change_made state.objects change) t head.id ≡ object) typed (data_put state.caps state.driver state.objects head.id object change none is)
 
 module _ (state : DeviceState) (put : List ℕ) (room : ℕ) (head : ObjHead) (object : ObjData) (valid : IsValid state) (enough : 8 ≤ room) (done : status_of (reply_of state put room) ≡ 0) where
+  -- the put of a command that is no other than this object's
+  put_by : (command : Command) → Reads put command → first_verdict (verdict_rows state put) ≡ None → effect_for state.driver command ≡ effect_with (put_of head.id object) → change_of command ≡ put_of head.id object → NoneHolds (content_rows state.caps state.driver state.objects head.id object) → is_object_type (type_of object) ≡ true → type_of object ≡ head.type_code → object_data (next_state state put room).objects head.type_code head.id ≡ object
+  put_by command read none effect makes content known typed =
+      let change = put_there head.id object known in
+      let rows = command_none state put command read none in
+      let accepted = accepted_change state.caps state.driver state.objects valid.limits command rows change.0 (makes ∙ change.1) in
+      let after : next_state state put room ≡ record state { objects = with_change_made state.objects change.0 } = next_is state put command read room enough none ∙ (ap (with_effect state) effect ∙ put_made state change.0 accepted.sound (put_of head.id object) change.1) in
+      put_leaves state head object change.0 content change.1 typed _ after
+
   created : Reads put (Create head object) → IsPut state (next_state state put room) head object
   created read =
       let none = none_if_obeyed state put room enough done in
-      let rows = command_none state put (Create head object) read none in
-      let is = clear state.caps state.driver state.objects (Create head object) rows in
+      let is = clear state.caps state.driver state.objects (Create head object) (command_none state put (Create head object) read none) in
       let known = not_false _ is.known in
       let typed = created_typed put head object read known in
-      let change = put_there head.id object known in
-      let accepted = accepted_change state.caps state.driver state.objects valid.limits (Create head object) rows change.0 change.1 in
-      let after : next_state state put room ≡ record state { objects = with_change_made state.objects change.0 } = next_is state put (Create head object) read room enough none ∙ put_made state change.0 accepted.sound (put_of head.id object) change.1 in
-      record { no_flags = is.no_flags; known = known; typed = typed; kept = put_leaves state head object change.0 is.content change.1 typed _ after }
+      record { no_flags = is.no_flags; known = known; typed = typed; kept = put_by (Create head object) read none refl refl is.content known typed }
 
   modified : Reads put (Modify head object) → IsPut state (next_state state put room) head object
   modified read =
       let none = none_if_obeyed state put room enough done in
-      let rows = command_none state put (Modify head object) read none in
-      let is = clear state.caps state.driver state.objects (Modify head object) rows in
+      let is = clear state.caps state.driver state.objects (Modify head object) (command_none state put (Modify head object) read none) in
       let known = not_false _ is.known in
       let typed = modified_typed put head object read known in
-      let change = put_there head.id object known in
-      let accepted = accepted_change state.caps state.driver state.objects valid.limits (Modify head object) rows change.0 change.1 in
-      let after : next_state state put room ≡ record state { objects = with_change_made state.objects change.0 } = next_is state put (Modify head object) read room enough none ∙ put_made state change.0 accepted.sound (put_of head.id object) change.1 in
-      record { no_flags = is.no_flags; known = known; typed = typed; kept = put_leaves state head object change.0 is.content change.1 typed _ after }
+      record { no_flags = is.no_flags; known = known; typed = typed; kept = put_by (Modify head object) read none refl refl is.content known typed }
 
   either : Puts put head object → IsPut state (next_state state put room) head object
   either (inl read) = created read
