@@ -1,7 +1,6 @@
 -- A query gives back what was put last.
 use Rattle.std.proofs.Common.{◌≡◌, ◌≢◌, ℕ, ◌≤◌, Bool, true, false, not, cond, ltb, List, [], ◌∷◌, Option, Some, None, Result, Ok, Err, refl, sym, ap, ◌∙◌, subst, inl, inr, eqb-true}
 use Rattle.std.specs.Prelude.{is_some, ◌==◌}
-use Rattle.std.specs.List.{AllByRecursion}
 use Rattle.std.specs.Option.{option_map_or}
 use Rattle.ff_headers.specs.SelectorParts.{SelectorParts}
 use Rattle.ff_headers.specs.RuleParts.{RuleParts}
@@ -30,7 +29,7 @@ use Rattle.cap_table.specs.Caps.{CapsParts, DriverParts, is_action_set}
 use Rattle.cap_table.specs.States.{DeviceState, IsValid, is_opcode_in}
 use Rattle.cap_table.specs.Verdicts.{first_verdict, verdict_rows, command_rows, content_rows, rule_faults, is_key_odd, is_unknown, type_of, is_object_type, is_held}
 use Rattle.cap_table.specs.Answers.{answer_of, verdict_of, accepted, refused_or, put_of, drop_of, change_of, effect_for, effect_with, rule_parts, action_of_byte, byte_of_action, classifier_data, rule_data, object_data, telling}
-use Rattle.cap_table.specs.Steps.{status_of, reply_of, effect_in, effect_of, with_effect, next_state, state_after, Puts, IsAbout, IsElsewhere}
+use Rattle.cap_table.specs.Steps.{status_of, reply_of, effect_in, effect_of, with_effect, next_state, state_after, Puts, IsAbout, LeavesObject, RunLeaves}
 use Rattle.cap_table.specs.declared.verdict.Verdict.{Verdict}
 use Rattle.cap_table.specs.declared.answer.Answer.{Answer}
 use Rattle.cap_table.specs.declared.answer.Effect.{Effect}
@@ -39,6 +38,7 @@ use Rattle.cap_table.proofs.AcceptedChanges.{not_false, some_is, accepted_change
 use Rattle.cap_table.proofs.ReadCommands.{created_typed, modified_typed}
 use Rattle.cap_table.proofs.ObeyedCommands.{reply_is, none_if_obeyed, command_none, none_in_use, answer_is, next_is}
 use Rattle.cap_table.proofs.ObjectRuns.{under_put_same, under_put_other, under_without_other}
+use Rattle.cap_table.proofs.EveryAnswer.{refused_stays, silent_stays}
 use Rattle.cap_table.proofs.UndoneCreates.{put_there, put_made}
 use Rattle.cap_table.proofs.ValidSteps.{valid_with_effect}
 
@@ -184,14 +184,19 @@ module _ (state : DeviceState) (valid : IsValid state) (bytes : List ℕ) (type_
     by_test true = refl
     by_test false = leaves_answer
 
--- commands that aren't about an object leave its data
-data_stays : (state : DeviceState) (commands : List (List ℕ × ℕ)) (type_code id : ℕ) → IsValid state → AllByRecursion (IsElsewhere type_code id) commands → object_data (state_after state commands).objects type_code id ≡ object_data state.objects type_code id
+-- a command that leaves an object leaves its data
+data_left : (state : DeviceState) (sent : List ℕ × ℕ) (type_code id : ℕ) → IsValid state → LeavesObject state type_code id sent → object_data (next_state state sent.0 sent.1).objects type_code id ≡ object_data state.objects type_code id
+data_left state sent type_code id valid (inl off) = data_next state valid sent.0 type_code id off sent.1
+data_left state sent type_code id valid (inr (inl refused)) = ap (λ (s : DeviceState). object_data s.objects type_code id) (refused_stays state sent.0 sent.1 refused)
+data_left state sent type_code id valid (inr (inr silent)) = ap (λ (s : DeviceState). object_data s.objects type_code id) (silent_stays state sent.0 sent.1 silent)
+
+data_stays : (state : DeviceState) (commands : List (List ℕ × ℕ)) (type_code id : ℕ) → IsValid state → RunLeaves state type_code id commands → object_data (state_after state commands).objects type_code id ≡ object_data state.objects type_code id
 unfolding state_after
 data_stays state [] type_code id valid off = refl
 data_stays state (sent ∷ commands) type_code id valid off =
     let next = next_state state sent.0 sent.1 in
     data_stays next commands type_code id (valid_with_effect state valid (effect_of state sent.0 sent.1) (sent.0, sent.1, refl)) off.1
-    ∙ data_next state valid sent.0 type_code id off.0 sent.1
+    ∙ data_left state sent type_code id valid off.0
 
 -- ---- the query
 
@@ -240,36 +245,37 @@ put_leaves state head object change none is typed next after =
     ∙ subst (λ (t : ℕ). object_data (with_change_made state.objects change) t head.id ≡ object) typed (data_put state.caps state.driver state.objects head.id object change none is)
 
 module _ (state : DeviceState) (put : List ℕ) (room : ℕ) (head : ObjHead) (object : ObjData) (valid : IsValid state) (enough : 8 ≤ room) (done : status_of (reply_of state put room) ≡ 0) where
+  -- the put of a command that is no other than this object's
+  put_by : (command : Command) → Reads put command → first_verdict (verdict_rows state put) ≡ None → effect_for state.driver command ≡ effect_with (put_of head.id object) → change_of command ≡ put_of head.id object → NoneHolds (content_rows state.caps state.driver state.objects head.id object) → is_object_type (type_of object) ≡ true → type_of object ≡ head.type_code → object_data (next_state state put room).objects head.type_code head.id ≡ object
+  put_by command read none effect makes content known typed =
+      let change = put_there head.id object known in
+      let rows = command_none state put command read none in
+      let accepted = accepted_change state.caps state.driver state.objects valid.limits command rows change.0 (makes ∙ change.1) in
+      let after : next_state state put room ≡ record state { objects = with_change_made state.objects change.0 } = next_is state put command read room enough none ∙ (ap (with_effect state) effect ∙ put_made state change.0 accepted.sound (put_of head.id object) change.1) in
+      put_leaves state head object change.0 content change.1 typed _ after
+
   created : Reads put (Create head object) → IsPut state (next_state state put room) head object
   created read =
       let none = none_if_obeyed state put room enough done in
-      let rows = command_none state put (Create head object) read none in
-      let is = clear state.caps state.driver state.objects (Create head object) rows in
+      let is = clear state.caps state.driver state.objects (Create head object) (command_none state put (Create head object) read none) in
       let known = not_false _ is.known in
       let typed = created_typed put head object read known in
-      let change = put_there head.id object known in
-      let accepted = accepted_change state.caps state.driver state.objects valid.limits (Create head object) rows change.0 change.1 in
-      let after : next_state state put room ≡ record state { objects = with_change_made state.objects change.0 } = next_is state put (Create head object) read room enough none ∙ put_made state change.0 accepted.sound (put_of head.id object) change.1 in
-      record { no_flags = is.no_flags; known = known; typed = typed; kept = put_leaves state head object change.0 is.content change.1 typed _ after }
+      record { no_flags = is.no_flags; known = known; typed = typed; kept = put_by (Create head object) read none refl refl is.content known typed }
 
   modified : Reads put (Modify head object) → IsPut state (next_state state put room) head object
   modified read =
       let none = none_if_obeyed state put room enough done in
-      let rows = command_none state put (Modify head object) read none in
-      let is = clear state.caps state.driver state.objects (Modify head object) rows in
+      let is = clear state.caps state.driver state.objects (Modify head object) (command_none state put (Modify head object) read none) in
       let known = not_false _ is.known in
       let typed = modified_typed put head object read known in
-      let change = put_there head.id object known in
-      let accepted = accepted_change state.caps state.driver state.objects valid.limits (Modify head object) rows change.0 change.1 in
-      let after : next_state state put room ≡ record state { objects = with_change_made state.objects change.0 } = next_is state put (Modify head object) read room enough none ∙ put_made state change.0 accepted.sound (put_of head.id object) change.1 in
-      record { no_flags = is.no_flags; known = known; typed = typed; kept = put_leaves state head object change.0 is.content change.1 typed _ after }
+      record { no_flags = is.no_flags; known = known; typed = typed; kept = put_by (Modify head object) read none refl refl is.content known typed }
 
   either : Puts put head object → IsPut state (next_state state put room) head object
   either (inl read) = created read
   either (inr read) = modified read
 
-  -- after an accepted create or modify of an object, and any commands that aren't about it, a query gives it back
-  pub given_back : Puts put head object → (commands : List (List ℕ × ℕ)) → AllByRecursion (IsElsewhere head.type_code head.id) commands → (query : List ℕ) (asked : ℕ) → Reads query (Query head) → is_opcode_in (state_after (next_state state put room) commands).in_use 12 ≡ true → reply_of (state_after (next_state state put room) commands) query asked ≡ reply_bytes (telling (written (object_fields object))) asked
+  -- after an accepted create or modify of an object, and any commands that leave it, a query gives it back
+  pub given_back : Puts put head object → (commands : List (List ℕ × ℕ)) → RunLeaves (next_state state put room) head.type_code head.id commands → (query : List ℕ) (asked : ℕ) → Reads query (Query head) → is_opcode_in (state_after (next_state state put room) commands).in_use 12 ≡ true → reply_of (state_after (next_state state put room) commands) query asked ≡ reply_bytes (telling (written (object_fields object))) asked
   given_back puts commands off query asked read used =
       let next = next_state state put room in
       let valid_next = valid_with_effect state valid (effect_of state put room) (put, room, refl) in

@@ -149,16 +149,19 @@ both_typed bytes parts h known =
     let typed = object_typed (head_of bytes).type_code (drop head_size bytes) step.0 step.1 (subst (λ (o : ObjData). is_object_type (type_of o) ≡ true) (sym same) known) in
     ap type_of (sym same) ∙ (typed ∙ ap (λ (x : ObjHead). x.type_code) head)
 
+-- the parts that were read are a command's, so its object is of its head's type
+parts_typed : (bytes : List ℕ) (parts : ObjHead × ObjData) (head : ObjHead) (object : ObjData) → head_and_object bytes ≡ Ok parts → parts.0 ≡ head → parts.1 ≡ object → is_object_type (type_of object) ≡ true → type_of object ≡ head.type_code
+parts_typed bytes parts head object read first second known =
+    let typed = both_typed bytes parts read (subst (λ (o : ObjData). is_object_type (type_of o) ≡ true) (sym second) known) in
+    ap type_of (sym second) ∙ (typed ∙ ap (λ (x : ObjHead). x.type_code) first)
+
 -- the data that a create gives is of its head's type
 pub created_typed : (bytes : List ℕ) (head : ObjHead) (object : ObjData) → command_of bytes ≡ Ok (Create head object) → is_object_type (type_of object) ≡ true → type_of object ≡ head.type_code
 unfolding data_of
 created_typed bytes head object h known =
     let step = after_step (head_and_object (drop header_size bytes)) _ _ (data_read bytes (Create head object) h) in
     let is : Create step.0.0 step.0.1 ≡ Create head object = cc step.2 in
-    let first : step.0.0 ≡ head = cc is in
-    let second : step.0.1 ≡ object = cc is in
-    let typed = both_typed (drop header_size bytes) step.0 step.1 (subst (λ (o : ObjData). is_object_type (type_of o) ≡ true) (sym second) known) in
-    ap type_of (sym second) ∙ (typed ∙ ap (λ (x : ObjHead). x.type_code) first)
+    parts_typed (drop header_size bytes) step.0 head object step.1 (cc is) (cc is) known
 
 -- and so is that which a modify gives
 pub modified_typed : (bytes : List ℕ) (head : ObjHead) (object : ObjData) → command_of bytes ≡ Ok (Modify head object) → is_object_type (type_of object) ≡ true → type_of object ≡ head.type_code
@@ -166,10 +169,7 @@ unfolding data_of
 modified_typed bytes head object h known =
     let step = after_step (head_and_object (drop header_size bytes)) _ _ (data_read bytes (Modify head object) h) in
     let is : Modify step.0.0 step.0.1 ≡ Modify head object = cc step.2 in
-    let first : step.0.0 ≡ head = cc is in
-    let second : step.0.1 ≡ object = cc is in
-    let typed = both_typed (drop header_size bytes) step.0 step.1 (subst (λ (o : ObjData). is_object_type (type_of o) ≡ true) (sym second) known) in
-    ap type_of (sym second) ∙ (typed ∙ ap (λ (x : ObjHead). x.type_code) first)
+    parts_typed (drop header_size bytes) step.0 head object step.1 (cc is) (cc is) known
 
 -- ---- a capability that was read
 

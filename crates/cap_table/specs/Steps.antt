@@ -1,5 +1,5 @@
 -- One step of the object machine, and its runs. This project's subset of the draft's administration commands.
-use Rattle.std.specs.Prelude.{IsTrue, ℕ, ◌≡◌, ◌≢◌, ◌⊎◌, List, [], ◌∷◌, Option, Some, None}
+use Rattle.std.specs.Prelude.{⊤, IsTrue, ℕ, ◌≡◌, ◌≢◌, ◌⊎◌, List, [], ◌∷◌, Option, Some, None}
 use Rattle.ff_headers.specs.Changes.{step}
 use Rattle.byte_numbers.specs.Numbers.{le16_at}
 use Rattle.admin_wire.specs.declared.command.Command.{Command}
@@ -79,6 +79,14 @@ IsAbout type_code id (Modify head object) = (head.type_code ≡ type_code) × (h
 IsAbout type_code id (Destroy head) = (head.type_code ≡ type_code) × (head.id ≡ id)
 IsAbout type_code id _ = ⊥
 
--- the bytes lay out no such command
-abbrev pub IsElsewhere : ℕ → ℕ → List ℕ × ℕ → Type 0
-IsElsewhere type_code id sent = (command : Command) → Reads sent.0 command → ¬ IsAbout type_code id command
+-- a command leaves the object: its bytes lay out none that is about it, or it isn't answered with status 0
+abbrev pub LeavesObject : DeviceState → ℕ → ℕ → List ℕ × ℕ → Type 0
+LeavesObject state type_code id sent =
+    ((command : Command) → Reads sent.0 command → ¬ IsAbout type_code id command)
+    ⊎ ((status_of (reply_of state sent.0 sent.1) ≢ 0) ⊎ (reply_of state sent.0 sent.1 ≡ []))
+
+-- so does each command of a run, in the state that those before it leave
+abbrev pub RunLeaves : DeviceState → ℕ → ℕ → List (List ℕ × ℕ) → Type 0
+RunLeaves state type_code id [] = ⊤
+RunLeaves state type_code id (sent ∷ commands) =
+    LeavesObject state type_code id sent × RunLeaves (next_state state sent.0 sent.1) type_code id commands

@@ -1,5 +1,5 @@
 -- The words so far are written, each in 8 bytes.
-use Rattle.std.proofs.Common.{◌≡◌, ◌+◌, ◌*◌, length, take, flat_map}
+use Rattle.std.proofs.Common.{◌≡◌, ◌*◌, length, take, flat_map}
 use Rattle.std.specs.Int.{w64, to_le_bytes}
 use Rattle.cap_table.proofs.cap_results.list_bytes.Given as goal
 
