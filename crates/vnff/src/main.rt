@@ -11,13 +11,7 @@ use std::io::ErrorKind;
 use std::process::ExitCode;
 use std::rt::{Env, Files};
 use vnff_base::{DirShelf, StdOut};
-use vnff_run::plain;
-
-/// The exit status of a faulty command line.
-const FAULTY_WORDS: u8 = 2;
-
-/// The exit status where memory runs out.
-const NO_MEMORY: u8 = 5;
+use vnff_run::{FAULTY_WORDS, NO_MEMORY, plain};
 
 /// The words behind the program's own name, or the exit status where there are none to run on.
 fn words<R: Env + AllocGlobal>(rt: &R) -> Result<Vec<String>, u8>

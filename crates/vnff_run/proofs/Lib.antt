@@ -1,3 +1,4 @@
+mod AnswerLemmas
 mod EndingLemmas
 mod GrammarExamples
 mod GrammarLemmas

@@ -28,6 +28,7 @@ mod file;
 mod form;
 mod grammar;
 mod item_line;
+pub mod laws;
 mod program;
 mod replay;
 mod script;
