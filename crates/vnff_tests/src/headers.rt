@@ -1,10 +1,10 @@
-//! Each public call once, on a frame of two addresses and the type 0x0800.
+//! Each public call once, on a frame of two addresses and the type 0x0800, and the headers of whole frames.
 
 ghost use Rattle.std.specs.Prelude.{◌≡◌, ◌<◌};
 
 use ff_headers::{
     Action, Change, Headers, Key, Kind, Limits, RuleAction, RuleObj, Selector, Selectors, ShapeErr,
-    Steps, allowed, cmp_key, matches,
+    Steps, allowed, cmp_key, is_partial, matches, rises,
 };
 use std::cmp::Ordering;
 use std::marker::Brand;
@@ -13,6 +13,21 @@ use std::sync::ledger::{Blank, Ledger};
 use std::test::Fail;
 
 const FRAME: [u8; 14] = [1, 2, 3, 4, 5, 6, 7, 8, 9, 10, 11, 12, 8, 0];
+
+/// A TCP segment over IPv4, from 10.0.0.7 and port 12345 to 192.168.0.1 and port 80.
+pub(crate) const TCP_FRAME: [u8; 54] = [
+    0x02, 0, 0, 0, 0, 0xaa, 0x02, 0, 0, 0, 0, 0xbb, 0x08, 0x00, // Ethernet
+    0x45, 0, 0, 0x28, 0, 0, 0, 0, 0x40, 0x06, 0, 0, 10, 0, 0, 7, 192, 168, 0, 1, // IPv4
+    0x30, 0x39, 0, 80, 0, 0, 0, 0, 0, 0, 0, 0, 0, 0, 0, 0, 0, 0, 0, 0, // TCP
+];
+
+/// The same with four bytes of IPv4 options.
+pub(crate) const WITH_OPTIONS: [u8; 58] = [
+    0x02, 0, 0, 0, 0, 0xaa, 0x02, 0, 0, 0, 0, 0xbb, 0x08, 0x00, // Ethernet
+    0x46, 0, 0, 0x28, 0, 0, 0, 0, 0x40, 0x06, 0, 0, 10, 0, 0, 7, 192, 168, 0, 1, // IPv4
+    0, 0, 0, 0, // options
+    0x30, 0x39, 0, 80, 0, 0, 0, 0, 0, 0, 0, 0, 0, 0, 0, 0, 0, 0, 0, 0, // TCP
+];
 
 const TYPE_MASK: [u8; 14] = [15, 0, 0, 0, 0, 0, 0, 0, 0, 0, 0, 0, 255, 255];
 
@@ -50,10 +65,30 @@ fn a_masked_rule_matches(rt: HostRuntime) -> Result<(), Fail> {
 }
 
 #[test]
+fn headers_are_held(rt: HostRuntime) -> Result<(), Fail> {
+    let whole = Headers::parse(&TCP_FRAME);
+    assert_eq!(rt; whole.get(Kind::Eth), Some(&TCP_FRAME[..14]));
+    assert_eq!(rt; whole.get(Kind::Ipv4), Some(&TCP_FRAME[14..34]));
+    assert_eq!(rt; whole.get(Kind::Ipv6), None);
+    assert_eq!(rt; whole.get(Kind::Tcp), Some(&TCP_FRAME[34..]));
+    assert_eq!(rt; whole.get(Kind::Udp), None);
+    let behind_options = Headers::parse(&WITH_OPTIONS);
+    assert_eq!(rt; behind_options.get(Kind::Tcp), Some(&TCP_FRAME[34..]));
+    let mut later_fragment = TCP_FRAME;
+    later_fragment[21] = 1;
+    let fragment = Headers::parse(&later_fragment);
+    assert_eq!(rt; fragment.get(Kind::Ipv4).is_some(), true);
+    assert_eq!(rt; fragment.get(Kind::Tcp), None);
+    assert_eq!(rt; Headers::parse(&TCP_FRAME[..53]).get(Kind::Tcp), None);
+    Ok(())
+}
+
+#[test]
 fn shapes_are_refused(rt: HostRuntime) -> Result<(), Fail> {
     assert_eq!(rt; Selectors::of(&[]), Err(ShapeErr::Empty));
     let twice = [Selector::default(), Selector::default()];
     assert_eq!(rt; Selectors::of(&twice), Err(ShapeErr::Order));
+    assert!(rt; !rises(&twice));
     Ok(())
 }
 
@@ -79,6 +114,7 @@ fn masks_are_allowed(rt: HostRuntime) -> Result<(), Fail> {
     let half = Selector::new(Kind::Eth, 0, &half_type);
     assert!(rt; allowed(&whole_type, &whole_type));
     assert!(rt; !allowed(&whole_type, &half));
+    assert!(rt; !is_partial(&whole_type));
     assert!(rt; allowed(&Selector::new(Kind::Eth, 1, &TYPE_MASK), &half));
     Ok(())
 }

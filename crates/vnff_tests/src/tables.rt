@@ -1,9 +1,10 @@
-//! Each public call once: two groups, and rules for all frames that have an Ethernet header.
+//! Each public call once: two groups, and rules for all frames that have an Ethernet header; and a rule for a port.
 
 ghost use Rattle.std.specs.Prelude.{◌≡◌, ◌<◌};
 
+use crate::headers::{TCP_FRAME, WITH_OPTIONS};
 use ff_headers::{
-    Action, Change, Headers, Key, Limits, RuleAction, RuleObj, Selector, Selectors, Steps,
+    Action, Change, Headers, Key, Kind, Limits, RuleAction, RuleObj, Selector, Selectors, Steps,
 };
 use matcher::{Found, Tables};
 use std::alloc::Global;
@@ -64,5 +65,51 @@ fn the_first_rule_is_found(rt: HostRuntime) -> Result<(), Fail> {
     let none = found::<Brand>(&tables, &[], Blank::new(1));
     assert_eq!(rt; none.action, Action::Default);
     assert_eq!(rt; none.rule, None);
+    Ok(())
+}
+
+/// One rule, 9, for TCP segments over IPv4 with the destination port 80.
+fn port_rule(alloc: Global) -> Result<Tables, Fail> {
+    let mut ports = [0; 20];
+    ports[2] = 255;
+    ports[3] = 255;
+    let list = [
+        Selector::new(Kind::Ipv4, 0, &[0; 20]),
+        Selector::new(Kind::Tcp, 0, &ports),
+    ];
+    let mut bytes = [0; 40];
+    bytes[23] = 80;
+    let mut key = Key::new();
+    key.try_extend_from_slice(&bytes).ok().ok_or("room")?;
+    let mut tables = Tables::new(alloc, &LIMITS)?;
+    tables.apply(Change::PutGroup(1, 5));
+    tables.apply(Change::PutClassifier(7, Selectors::of(&list).ok().ok_or("shape")?));
+    tables.apply(Change::PutRule(9, RuleObj::new(1, 7, 0, RuleAction::Queue, 2, key)));
+    Ok(tables)
+}
+
+#[test]
+fn ports_are_found(rt: HostRuntime) -> Result<(), Fail> {
+    let tables = port_rule(rt.alloc())?;
+    let mut other_source = TCP_FRAME;
+    other_source[28] = 1;
+    let mut later_fragment = TCP_FRAME;
+    later_fragment[21] = 1;
+    let queue = Action::Queue(1);
+    assert_eq!(rt;
+        found::<Brand>(&tables, &TCP_FRAME, Blank::new(1)).action,
+        queue
+    );
+    assert_eq!(rt;
+        found::<Brand>(&tables, &other_source, Blank::new(1)).action,
+        queue
+    );
+    assert_eq!(rt;
+        found::<Brand>(&tables, &WITH_OPTIONS, Blank::new(1)).action,
+        queue
+    );
+    let fragment = found::<Brand>(&tables, &later_fragment, Blank::new(1));
+    assert_eq!(rt; fragment.action, Action::Default);
+    assert_eq!(rt; fragment.rule, None);
     Ok(())
 }
