@@ -1,7 +1,6 @@
 //! Laws of the object machine. Each call does nothing: its contract is the law.
 
 ghost use Rattle.std.specs.Prelude.{◌≡◌, ◌≢◌, ◌≤◌, ℕ, List, [], true, Some, IsSome};
-ghost use Rattle.std.specs.List.{AllByRecursion};
 ghost use Rattle.ff_headers.specs.Changes.{is_sound};
 ghost use Rattle.ff_headers.specs.Objects.{object_under, IsBacked};
 ghost use Rattle.ff_headers.specs.RuleParts.{RuleParts};
@@ -17,7 +16,8 @@ ghost use Rattle.cap_table.specs.Answers.{telling};
 ghost use Rattle.cap_table.specs.Caps.{CapsParts, AreCaps};
 ghost use Rattle.cap_table.specs.Statuses.{no_memory};
 ghost use Rattle.cap_table.specs.States.{DeviceState, IsValid, start_state};
-ghost use Rattle.cap_table.specs.Steps.{effect_of, status_of, reply_of, next_state, state_after, Puts, IsElsewhere, IsInUse};
+ghost use Rattle.cap_table.specs.Steps.{effect_of, status_of, reply_of, next_state, state_after};
+ghost use Rattle.cap_table.specs.Steps.{Puts, RunLeaves, IsInUse};
 ghost use Rattle.cap_table.specs.declared.answer.Effect.TheVariants as effects;
 ghost use Rattle.cap_table.specs.declared.start.Start.{Start};
 
@@ -44,12 +44,13 @@ pub fn named_objects_stay()
         ≡ object_under state.objects.classifiers rule.classifier }
 {}
 
-/// After an accepted create or modify of an object, and any commands that aren't about it, a query gives back what was
-/// put, with 0 in reserved bytes.
+/// A query gives back what the last accepted create or modify of the object put, with 0 in reserved bytes: after it come
+/// any commands that are refused, have no room for a reply, or aren't about the object.
 pub fn queries_give_back_what_was_put()
     ensures { (state : DeviceState) (put : List ℕ) (room : ℕ) (head : ObjHead) (object : ObjData) → IsValid state
         → Puts put head object → 8 ≤ room → status_of (reply_of state put room) ≡ 0
-        → (commands : List (List ℕ × ℕ)) → AllByRecursion (IsElsewhere head.type_code head.id) commands
+        → (commands : List (List ℕ × ℕ))
+        → RunLeaves (next_state state put room) head.type_code head.id commands
         → let after = state_after (next_state state put room) commands in (query : List ℕ) (asked : ℕ)
         → Reads query (Query head) → IsInUse after (Query head)
         → reply_of after query asked ≡ reply_bytes (telling (written (object_fields object))) asked }
