@@ -14,6 +14,8 @@ mod maps;
 #[cfg(test)]
 mod numbers;
 #[cfg(test)]
+mod objects;
+#[cfg(test)]
 mod store;
 #[cfg(test)]
 mod tables;
