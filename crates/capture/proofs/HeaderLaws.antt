@@ -1,5 +1,5 @@
 -- A header that is read is a good header, and a good header is read.
-use Rattle.std.proofs.Common.{◌≡◌, ℕ, ◌+◌, ◌≤◌, Bool, true, false, cond, List, [], ◌∷◌, ◌++◌, length, take, drop, Option, Some, None, Ok, refl, ap, sym, ◌∙◌, subst, arith, inl, inr, ◌⊎◌, le-ltb}
+use Rattle.std.proofs.Common.{◌≡◌, ℕ, ◌+◌, ◌≤◌, Bool, true, false, cond, List, ◌++◌, length, take, Option, Some, None, Ok, refl, ap, sym, ◌∙◌, subst, arith, inl, inr, ◌⊎◌, le-ltb}
 use Rattle.std.specs.Str.{bytes_eq}
 use Rattle.std.proofs.lemmas.List.{take-append-le, length-append}
 use Rattle.std.proofs.lemmas.Slice.Eq.{bytes_eq-Decides}
@@ -26,13 +26,13 @@ number32_at-front false front rest place within =
 number32_at-front true front rest place within =
     be32_at-same front (front ++ rest) place (HaveSame-front front rest place 4 within)
 
-version-front : (big : Bool) (header rest : List ℕ) → length header ≡ 24 → is_version_2_4 big (header ++ rest) ≡ is_version_2_4 big header
+pub version-front : (big : Bool) (header rest : List ℕ) → 24 ≤ length header → is_version_2_4 big (header ++ rest) ≡ is_version_2_4 big header
 unfolding is_version_2_4
-version-front big header rest size = rw (number16_at-front big header rest 4 (omega arith), number16_at-front big header rest 6 (omega arith)) refl
+version-front big header rest long = rw (number16_at-front big header rest 4 (omega arith), number16_at-front big header rest 6 (omega arith)) refl
 
-link-front : (big : Bool) (header rest : List ℕ) → length header ≡ 24 → link_type big (header ++ rest) ≡ link_type big header
+pub link-front : (big : Bool) (header rest : List ℕ) → 24 ≤ length header → link_type big (header ++ rest) ≡ link_type big header
 unfolding link_type
-link-front big header rest size = rw (number32_at-front big header rest 20 (omega arith)) refl
+link-front big header rest long = rw (number32_at-front big header rest 20 (omega arith)) refl
 
 -- the four magics, each of its kind
 magic-known : (big nanos : Bool) → kind_of_magic (magic big nanos) ≡ Some (record { big = big; nanos = nanos })
@@ -93,8 +93,8 @@ header_of-good header rest kind size good =
     record {
       size = size;
       magic = sym (take-append-le 4 header rest (omega arith)) ∙ kind-magic (take 4 (header ++ rest)) kind checked.0;
-      version = sym (version-front kind.big header rest size) ∙ checked.1;
-      link_type = sym (link-front kind.big header rest size) ∙ checked.2;
+      version = sym (version-front kind.big header rest (omega (arith, size))) ∙ checked.1;
+      link_type = sym (link-front kind.big header rest (omega (arith, size))) ∙ checked.2;
     }
 
 checked-good : (bytes : List ℕ) (kind : CaptureHeader) → is_version_2_4 kind.big bytes ≡ true → link_type kind.big bytes ≡ 1 → checked_header bytes (Some kind) ≡ Ok kind
@@ -107,4 +107,4 @@ unfolding header_of
 good-header_of header rest kind good =
     let size = good.size in
     let known = ap kind_of_magic (take-append-le 4 header rest (omega arith) ∙ good.magic) ∙ magic-known kind.big kind.nanos in
-    cond-false _ _ _ (le-ltb (length (header ++ rest)) 24 (omega (arith, length-append header rest))) ∙ (ap (checked_header (header ++ rest)) known ∙ checked-good (header ++ rest) kind (version-front kind.big header rest size ∙ good.version) (link-front kind.big header rest size ∙ good.link_type))
+    cond-false _ _ _ (le-ltb (length (header ++ rest)) 24 (omega (arith, length-append header rest))) ∙ (ap (checked_header (header ++ rest)) known ∙ checked-good (header ++ rest) kind (version-front kind.big header rest (omega (arith, size)) ∙ good.version) (link-front kind.big header rest (omega (arith, size)) ∙ good.link_type))

@@ -7,3 +7,5 @@ pub mod RecordLaws
 pub mod PieceLemmas
 pub mod RecordLemmas
 mod CaptureExamples
+pub mod FeedLaws
+pub mod FeedSteps

@@ -1,5 +1,5 @@
 -- Facts on the pieces of a list of bytes.
-use Rattle.std.proofs.Common.{◌≡◌, ℕ, zero, suc, ◌+◌, ◌-◌, ◌<◌, ◌≤◌, List, [], ◌∷◌, ◌++◌, length, get_or, take, slice_range, Some, refl, ap, sym, ◌∙◌, arith, ⊎_elim}
+use Rattle.std.proofs.Common.{◌≡◌, ℕ, zero, suc, ◌+◌, ◌-◌, ◌<◌, ◌≤◌, List, [], ◌∷◌, ◌++◌, length, get_or, take, slice_range, Some, refl, ap, sym, ◌∙◌, arith, ⊎_elim, ◌⊎◌, inl, inr, subst, add-one}
 use Rattle.std.specs.List.{slice_get}
 use Rattle.std.proofs.lemmas.Bool.{cases_lt}
 use Rattle.std.proofs.lemmas.List.{same_lists, length-append, get_or_push, length_push, get_or_append_left, drop_at, take_all}
@@ -69,6 +69,50 @@ pieces-push bytes piece places are =
     let right = length_push (pieces bytes places) piece in
     let count = length-pieces bytes places in
     same_lists _ _ (omega arith) (λ k d within. push-at bytes piece places k d are (omega arith))
+
+-- where a piece begins and ends, where the first begins at 0
+pub record HasEnds (bytes ends : List ℕ) (place : ℕ) : Type 0 where
+  pub up : get_or (0 ∷ ends) place 0 ≤ get_or ends place 0
+  pub inside : get_or ends place 0 ≤ length bytes
+  pub is : slice_get (pieces bytes (0 ∷ ends)) place ≡ Some (slice_range bytes (get_or (0 ∷ ends) place 0) (get_or ends place 0))
+
+pub ends-at : (bytes ends : List ℕ) (place : ℕ) → ArePlaces bytes (0 ∷ ends) → place < length ends → HasEnds bytes ends place
+ends-at bytes ends place are below =
+    let next : get_or (0 ∷ ends) (place + 1) 0 ≡ get_or ends place 0 = ap (λ n. get_or (0 ∷ ends) n 0) (add-one place) in
+    let start = get_or (0 ∷ ends) place 0 in
+    record {
+      up = subst (λ n. start ≤ n) next (are.rise place (omega arith));
+      inside = subst (λ n. n ≤ length bytes) next (are.within (place + 1) (omega arith));
+      is = pieces-at bytes (0 ∷ ends) place (omega arith) ∙ ap (λ n. Some (slice_range bytes start n)) next;
+    }
+
+-- the places with one more
+push-place : (places : List ℕ) (last k : ℕ) → k ≤ length places → (k < length places) × (get_or (places ++ last ∷ []) k 0 ≡ get_or places k 0) ⊎ (k ≡ length places) × (get_or (places ++ last ∷ []) k 0 ≡ last)
+push-place places last k within = ⊎_elim
+    (λ (inner : k < length places). inl (inner, place-front places k last inner))
+    (λ (outer : length places ≤ k). let at_end : k ≡ length places = omega arith in inr (at_end, get_or_push places last 0 k (sym at_end)))
+    (cases_lt k (length places))
+
+pub ArePlaces-push : (bytes piece places : List ℕ) → ArePlaces bytes places → ArePlaces (bytes ++ piece) (places ++ (length (bytes ++ piece) ∷ []))
+ArePlaces-push bytes piece places are =
+    let end = length (bytes ++ piece) in
+    let more = length_push places end in
+    let long : length bytes ≤ end = omega (arith, length-append bytes piece) in
+    let some = are.some in
+    record {
+      some = omega (arith, more);
+      rise = λ k inner. elim (push-place places end (k + 1) (omega (arith, inner, more))) [
+        | inl here ↦ rw (here.1, place-front places k end (omega (arith, here.0))) (are.rise k here.0)
+        | inr last ↦ rw (last.1, place-front places k end (omega (arith, last.0))) (omega (arith, are.within k (omega (arith, last.0)), long))
+      ];
+      within = λ k inner. elim (push-place places end k (omega (arith, inner, more))) [
+        | inl here ↦ rw here.1 (omega (arith, are.within k here.0, long))
+        | inr last ↦ rw last.1 (omega arith)
+      ];
+      last =
+          let at : length (places ++ end ∷ []) - 1 ≡ length places = omega (arith, more) in
+          rw at (get_or_push places end 0 (length places) refl);
+    }
 
 pub ruleset piece_facts = (length-pieces, pieces-at)
 

@@ -69,7 +69,7 @@ unfolding frame_of
 frame_of-by big at bytes size is within whole =
     rw is (cond-false _ _ _ (le-ltb (length bytes) 16 (omega arith)) ∙ (cond-false _ _ _ (le-ltb 262144 size within) ∙ cond-false _ _ _ (le-ltb (length bytes) (16 + size) whole)))
 
-frame_of-record : (big : Bool) (at : ℕ) (head frame rest : List ℕ) → IsRecordHead big head frame → frame_of big at (head ++ (frame ++ rest)) ≡ Ok frame
+pub frame_of-record : (big : Bool) (at : ℕ) (head frame rest : List ℕ) → IsRecordHead big head frame → frame_of big at (head ++ (frame ++ rest)) ≡ Ok frame
 frame_of-record big at head frame rest good =
     let size = good.size in
     let is = captured-front big head (frame ++ rest) good.size ∙ good.captured in

@@ -2,3 +2,4 @@ pub mod FileHeaders
 pub mod Records
 pub mod Captures
 pub mod Pieces
+pub mod Feeds

@@ -1,6 +1,6 @@
-//! The frames of a capture, kept in two vectors: the bytes of all frames, and the places at which they begin and end.
+//! The frames of a capture, kept in two vectors: the bytes of all frames, and the places at which they end.
 
-ghost use Rattle.std.specs.Prelude.{◌≡◌, ◌≤◌, ◌==◌, ◌↔◌, List, ℕ, [], ◌∷◌, ◌++◌, length, slice_get, IsNone, IfOk, OnOk, OnErr};
+ghost use Rattle.std.specs.Prelude.{◌≡◌, ◌≤◌, ◌==◌, ◌↔◌, List, ℕ, [], ◌∷◌, ◌++◌, length, slice_get, slice_index, IsNone, IfOk, OnOk, OnErr};
 ghost use Rattle.std.specs.Option.{option_copied};
 
 use std::alloc::{AllocError, Global};
@@ -11,21 +11,31 @@ use std::marker::Model;
 #[derive(Debug, Drop)]
 pub struct Frames {
     bytes: Vec<u8>,
-    places: Vec<usize>,
+    ends: Vec<usize>,
 }
 
 impl Model for Frames {
-    ghost use Rattle.std.specs.Prelude.{List, ℕ};
+    ghost use Rattle.std.specs.Prelude.{List, ℕ, ◌∷◌};
     ghost use Rattle.capture.specs.Pieces.{pieces, ArePlaces};
 
     ghost Value = { List (List ℕ) };
 
-    ghost view = { λ f. pieces f.bytes.items f.places.items };
+    ghost view = { λ f. pieces f.bytes.items (0 ∷ f.ends.items) };
 
-    ghost invariant = { λ f. ArePlaces f.bytes.items f.places.items };
+    ghost invariant = { λ f. ArePlaces f.bytes.items (0 ∷ f.ends.items) };
 }
 
 impl Frames {
+    /// No frame. It takes no memory.
+    pub(crate) fn new(alloc: Global) -> Frames
+        ensures { result ≡ [] }
+    {
+        Frames {
+            bytes: Vec::new(alloc),
+            ends: Vec::new(alloc),
+        }
+    }
+
     /// No frame, and room for that many frames with that many bytes in all.
     pub(crate) fn with_room(
         alloc: Global,
@@ -34,11 +44,9 @@ impl Frames {
     ) -> Result<Frames, AllocError>
         ensures { IfOk result (λ made. made ≡ []) }
     {
-        let mut places = Vec::with_capacity(alloc, frames.saturating_add(1))?;
-        places.push(0)?;
         Ok(Frames {
             bytes: Vec::with_capacity(alloc, bytes)?,
-            places,
+            ends: Vec::with_capacity(alloc, frames)?,
         })
     }
 
@@ -48,9 +56,9 @@ impl Frames {
         ensures ok { OnOk result (self.new ≡ self.old ++ frame.now ∷ []) }
         ensures err { OnErr result (self.new ≡ self.old) }
     {
-        self.places.reserve(1)?;
+        self.ends.reserve(1)?;
         self.bytes.extend_from_slice(frame)?;
-        self.places.push_reserved(self.bytes.len());
+        self.ends.push_reserved(self.bytes.len());
         Ok(())
     }
 
@@ -59,7 +67,7 @@ impl Frames {
     pub fn len(&self) -> usize
         ensures { result ≡ length self.now }
     {
-        self.places.len() - 1
+        self.ends.len()
     }
 
     /// Whether there is no frame.
@@ -78,8 +86,16 @@ impl Frames {
         if place >= self.len() {
             return None;
         }
-        let from = self.places[place];
-        let to = self.places[place + 1];
+        let from = start_of(&self.ends, place);
+        let to = self.ends[place];
         Some(&self.bytes[from..to])
     }
+}
+
+/// Where a frame begins: at the end of the one before it.
+fn start_of(ends: &[usize], place: usize) -> usize
+    requires { place ≤ length ends.now }
+    ensures { result ≡ slice_index (0 ∷ ends.now) place }
+{
+    if place == 0 { 0 } else { ends[place - 1] }
 }

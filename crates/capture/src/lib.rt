@@ -6,15 +6,18 @@
 //! are ignored.
 //!
 //! It promises that `read_frames` gives the frames of the capture or its first fault, unless memory runs out, and
-//! `read_header` and `next_frame` the same of the header and of one record; and that what `write_header` and then
-//! `write_frame` append is a capture of the frames, or a front of it where the output failed.
+//! `read_header` and `next_frame` the same of the header and of one record; that [`Feed`] gives the same of bytes that come
+//! in pieces, however they are cut, and never keeps a whole record beside the frames; and that what `write_header` and
+//! then `write_frame` append is a capture of the frames, or a front of it where the output failed.
 //!
 //! Definitions, in specs/: `FileHeaders` (a good header), `Records` (a record for each frame), `Captures` (what bytes read
-//! as, and what is written); `Pieces` says how frames are kept. `laws` has the laws that stand on no other call: in the
-//! format's words, which bytes are a capture, what stands before a fault, and what is written.
+//! as, and what is written); `Pieces` says how frames are kept, and `Feeds` which bytes a feed stands for. `laws` has the
+//! laws that stand on no other call: in the format's words, which bytes are a capture, what stands before a fault, and
+//! what is written.
 #![tactic(auto)]
 
 mod error;
+mod feed;
 mod frames;
 mod header;
 pub mod laws;
@@ -24,6 +27,7 @@ mod record;
 mod writing;
 
 pub use error::{CaptureErr, FramesErr};
+pub use feed::Feed;
 pub use frames::Frames;
 pub use header::{CaptureHeader, read_header};
 pub use reading::read_frames;

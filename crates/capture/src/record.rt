@@ -38,7 +38,7 @@ pub fn next_frame<'a>(
 
 /// The frame of the record that the bytes begin with.
 #[tactic(auto, unfolding(crate::specs::Records::frame_of, crate::specs::Records::captured_length))]
-fn first_frame(bytes: &[u8], big: bool, at: u64) -> Result<&[u8], CaptureErr>
+pub(crate) fn first_frame(bytes: &[u8], big: bool, at: u64) -> Result<&[u8], CaptureErr>
     ensures value { map_ok (λ frame. frame.now) result ≡ frame_of big at bytes.now }
     ensures within { IfOk result (λ frame. 16 + length frame.now ≤ length bytes.now) }
 {
