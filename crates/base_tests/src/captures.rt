@@ -1,9 +1,10 @@
 //! Captures of one frame in both byte orders, cut at each length; and what is written, byte by byte.
 
 use capture::{
-    CaptureErr, CaptureHeader, Frames, FramesErr, next_frame, read_frames, read_header,
+    CaptureErr, CaptureHeader, Feed, Frames, FramesErr, next_frame, read_frames, read_header,
     write_frame, write_header,
 };
+use std::alloc::Global;
 use std::process::Abort;
 use std::test::Fail;
 use vnff_base::MemOut;
@@ -60,6 +61,24 @@ fn a_frame_that_is_too_long(rt: HostRuntime) {
     bytes[34] = 4;
     let wanted = Err(FramesErr::Bad(CaptureErr::TooLong(24)));
     check(&rt, read_frames(rt.alloc(), &bytes), wanted);
+}
+
+/// What a feed gives of two pieces.
+fn fed(alloc: Global, first: &[u8], second: &[u8]) -> Result<Frames, FramesErr> {
+    let feed = Feed::new(alloc);
+    let feed = feed.feed(first).map_err(|_| FramesErr::Memory)?;
+    let feed = feed.feed(second).map_err(|_| FramesErr::Memory)?;
+    feed.finish().map_err(FramesErr::Bad)
+}
+
+#[test]
+fn a_capture_in_two_pieces(rt: HostRuntime) {
+    for size in 0..55 {
+        let (first, second) = CAPTURE.split_at(size);
+        check(&rt, fed(rt.alloc(), first, second), Ok(1));
+    }
+    let cut = Err(FramesErr::Bad(CaptureErr::Truncated(24)));
+    check(&rt, fed(rt.alloc(), &CAPTURE[..31], &CAPTURE[31..53]), cut);
 }
 
 #[test]
