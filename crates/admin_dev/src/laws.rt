@@ -14,6 +14,7 @@ ghost use Rattle.admin_wire.specs.Replies.{reply_bytes};
 ghost use Rattle.admin_wire.specs.Wire.{Reads};
 ghost use Rattle.cap_table.specs.Answers.{telling};
 ghost use Rattle.cap_table.specs.Caps.{CapsParts, AreCaps};
+ghost use Rattle.cap_table.specs.CapSets.{AreAllowed};
 ghost use Rattle.cap_table.specs.Statuses.{no_memory};
 ghost use Rattle.cap_table.specs.States.{DeviceState, IsValid, start_state};
 ghost use Rattle.cap_table.specs.Steps.{effect_of, status_of, reply_of, next_state, state_after};
@@ -27,6 +28,14 @@ pub fn runs_are_valid()
     ensures start { (caps : CapsParts) (start : Start) → AreCaps caps → IsValid (start_state caps start) }
     ensures run { (state : DeviceState) (commands : List (List ℕ × ℕ)) → IsValid state
         → IsValid (state_after state commands) }
+{}
+
+/// In every state of every run the driver's selectors are of types that the device's are of, and ask for no mask that those
+/// don't allow.
+pub fn drivers_stay_within_the_device()
+    ensures { (caps : CapsParts) (start : Start) (commands : List (List ℕ × ℕ)) → AreCaps caps
+        → let state = state_after (start_state caps start) commands in
+        AreAllowed state.caps.selectors state.driver.selectors }
 {}
 
 /// In every state of every run each rule's group and classifier are held. No command destroys the group or the

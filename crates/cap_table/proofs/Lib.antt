@@ -12,4 +12,5 @@ pub mod ObeyedCommands
 pub mod ObjectRuns
 pub mod UndoneCreates
 pub mod KeptObjects
+pub mod AllowedSets
 pub mod ValidSteps

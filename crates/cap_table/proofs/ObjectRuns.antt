@@ -24,7 +24,7 @@ apart a b off = grind (arith, nat_tests)
 differs : (a b : ℕ) → eqb a b ≡ false → a ≢ b
 differs a b test same = absurd (grind (arith, nat_tests))
 
-itself : (a : ℕ) → eqb a a ≡ true
+pub itself : (a : ℕ) → eqb a a ≡ true
 itself a = grind (arith, nat_tests)
 
 module _ {X : Type 0} where

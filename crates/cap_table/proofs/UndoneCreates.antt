@@ -26,7 +26,7 @@ use Rattle.cap_table.proofs.ObeyedCommands.{none_if_obeyed, command_none, none_i
 use Rattle.cap_table.proofs.ObjectRuns.{apart, step_sound, without-put, under_put_same}
 
 -- a test that fails at each element fails on the list
-fails_everywhere : {A : Type 0} (p : A → Bool) (xs : List A) → ((x : A) → Contains xs x → p x ≡ false) → list_any p xs ≡ false
+pub fails_everywhere : {A : Type 0} (p : A → Bool) (xs : List A) → ((x : A) → Contains xs x → p x ≡ false) → list_any p xs ≡ false
 fails_everywhere p [] each = refl
 fails_everywhere p (x ∷ xs) each = rw (each x (0, omega arith, refl)) (fails_everywhere p xs (λ y has. each y (suc has.0, omega arith, has.2)))
 

@@ -1,6 +1,6 @@
 -- Setting a capability of the driver: why it is refused, and what it leaves (Virtio 1.4 draft, "Device capabilities": a
 -- driver sets no more than the device offers). Which fault is found first is this project's own.
-use Rattle.std.specs.Prelude.{Bool, true, false, not, ◌&&◌, ◌||◌, nat_lt, if◌then◌else◌, List, Option, Some, None, is_some, ⊤}
+use Rattle.std.specs.Prelude.{◌≡◌, Bool, true, false, not, ◌&&◌, ◌||◌, nat_lt, if◌then◌else◌, List, Option, Some, None, is_some, ⊤}
 use Rattle.std.specs.List.{list_any}
 use Rattle.std.specs.List.Sorted.{IsStrictlyIncreasing}
 use Rattle.std.specs.Option.{option_map_or}
@@ -106,3 +106,8 @@ with_cap driver (caps.Other id) = driver
 pub record IsWithin (device : CapsParts) (driver : DriverParts) : Type 0 where
   pub limits : AtMost driver.limits device.limits
   pub selectors : AreSelectors driver.selectors
+
+-- each selector of a list is of a type that a capability has, and its mask isn't beyond that one's
+pub record AreAllowed (have list : List SelectorParts) : Type 0 where
+  pub known : list_any (is_type_missing have) list ≡ false
+  pub masks : list_any (is_mask_refused have) list ≡ false
