@@ -1,4 +1,5 @@
 pub mod Built
+pub mod DeviceFiles
 pub mod DeviceLines
 pub mod Endings
 pub mod Forms
