@@ -1,3 +1,8 @@
+<<<<<<< HEAD
+=======
+pub mod Built
+pub mod DeviceFiles
+>>>>>>> h/scripts
 pub mod DeviceLines
 pub mod Endings
 pub mod Forms

@@ -5,6 +5,7 @@ ghost use Rattle.ff_headers.specs.Kinds.{kind_code};
 ghost use Rattle.ff_headers.specs.SelectorParts.{IsWhole};
 ghost use Rattle.vnff_base.specs.Lines.{words_of};
 ghost use Rattle.cap_table.specs.Caps.{AreSelectors};
+ghost use Rattle.vnff_run.specs.DeviceFiles.{device_file_of, device_file_of_lines, first_number, ready_start};
 ghost use Rattle.vnff_run.specs.Grammar.{after_version, at_line, device_in, items_of, script_of, script_of_lines};
 ghost use Rattle.vnff_run.specs.Grammar.{selectors_in, with_selectors};
 ghost use Rattle.vnff_run.specs.Inputs.{file_limit};
@@ -20,7 +21,7 @@ use crate::item_line::item_of;
 use crate::script::{DeviceLine, Item, Reason, Script, ScriptFault};
 use crate::select_line::{behind_select, selector_of};
 use arrayvec::ArrayVec;
-use cap_table::DeviceCaps;
+use cap_table::{DeviceCaps, Start};
 use ff_headers::Selector;
 use std::alloc::Global;
 use vnff_base::List;
@@ -45,12 +46,54 @@ fn read_lines(alloc: Global, reader: &mut LineReader) -> Result<Script, ScriptFa
         MatchResult result (λ script. spelled ≡ Ok script) (IsFaultOf spelled) }
 {
     read_version(reader)?;
-    let DeviceLine { caps, start } = read_device(reader)?;
+    let (_, DeviceLine { caps, start }) = read_device(reader)?;
     let mut selectors = ArrayVec::new();
     let first = read_selectors(alloc, reader, &mut selectors)?;
     let items = read_items(alloc, first, reader)?;
     let caps = with_selectors(caps, selectors);
     Ok(Script { caps, start, items })
+}
+
+/// The device that the bytes of a file spell, at most 67,108,864 of them, as a script without items, or its first fault.
+pub fn read_device_file(alloc: Global, bytes: &[u8]) -> Result<Script, ScriptFault>
+    requires { length bytes.now ≤ file_limit }
+    ensures { MatchResult result (λ script. device_file_of bytes.now ≡ Ok script)
+        (IsFaultOf (device_file_of bytes.now)) }
+{
+    read_device_lines(alloc, &mut LineReader::new(bytes))
+}
+
+/// Reads all lines of a file of a device alone.
+#[tactic(auto, unfolding(crate::specs::DeviceFiles::device_file_of_lines, crate::specs::DeviceFiles::no_item), using(crate::proofs::GrammarLemmas::small_numbers))]
+fn read_device_lines(alloc: Global, reader: &mut LineReader) -> Result<Script, ScriptFault>
+    requires { HasSmallNumbers reader.old }
+    ensures { let spelled = device_file_of_lines reader.old.missing reader.old.left in
+        MatchResult result (λ script. spelled ≡ Ok script) (IsFaultOf spelled) }
+{
+    read_version(reader)?;
+    let (number, DeviceLine { caps, start }) = read_device(reader)?;
+    let mut selectors = ArrayVec::new();
+    if let Some(line) = read_selectors(alloc, reader, &mut selectors)? {
+        return Err(Reason::Word.at(line.number));
+    }
+    let start = ready_start(start).map_err(|reason| reason.at(number))?;
+    let caps = with_selectors(caps, selectors);
+    Ok(Script {
+        caps,
+        start,
+        items: List::new(alloc),
+    })
+}
+
+/// A start that isn't `reset`.
+#[tactic(auto, unfolding(crate::specs::DeviceFiles::ready_start))]
+fn ready_start(start: Start) -> Result<Start, Reason>
+    ensures { result ≡ ready_start start }
+{
+    match start {
+        Start::Ready => Ok(Start::Ready),
+        Start::Reset => Err(Reason::Start),
+    }
 }
 
 /// Reads the version's line.
@@ -71,18 +114,21 @@ fn read_version(reader: &mut LineReader) -> Result<(), ScriptFault>
     Ok(())
 }
 
-/// Reads the device's line.
+/// Reads the device's line, and gives its number.
 #[tactic(auto, unfolding(crate::specs::Grammar::device_in), using(crate::proofs::GrammarLemmas::small_numbers))]
-fn read_device(reader: &mut LineReader) -> Result<DeviceLine, ScriptFault>
+fn read_device(reader: &mut LineReader) -> Result<(u64, DeviceLine), ScriptFault>
     requires { HasSmallNumbers reader.old }
     ensures read { let spelled = device_in reader.old.missing reader.old.left in
-        MatchResult result (λ device. spelled ≡ Ok (device, reader.new.left)) (IsFaultOf spelled) }
+        MatchResult result (λ read. spelled ≡ Ok (read.1, reader.new.left)) (IsFaultOf spelled) }
+    ensures number { IfOk result (λ read. read.0 ≡ first_number reader.old.missing reader.old.left) }
+    ensures small_number { IfOk result (λ read. read.0 < 2 ^ 32) }
     ensures small { HasSmallNumbers reader.new }
 {
     let Some(line) = reader.next_line() else {
         return Err(Reason::Device.at(reader.missing()));
     };
-    device_of(line.text).map_err(|reason| reason.at(line.number))
+    let device = device_of(line.text).map_err(|reason| reason.at(line.number))?;
+    Ok((line.number, device))
 }
 
 /// Reads the lines of selectors, and gives the line behind them.
