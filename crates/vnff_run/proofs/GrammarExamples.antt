@@ -7,22 +7,14 @@ use Rattle.vnff_base.specs.Numbers.{number_of}
 use Rattle.vnff_base.specs.Lines.{words_of}
 use Rattle.byte_numbers.specs.Numbers.{le16_at, le32_at, le64_at}
 use Rattle.admin_wire.specs.Headers.{header_of, opcode_of}
-<<<<<<< HEAD
-=======
-use Rattle.vnff_run.specs.Built.{is_built_command}
 use Rattle.vnff_run.specs.DeviceFiles.{device_file_of, device_file_of_lines, no_item, ready_start}
->>>>>>> h/scripts
 use Rattle.vnff_run.specs.DeviceLines.{is_version, start_of, caps_of, device_of}
 use Rattle.vnff_run.specs.Grammar.{after_version, device_in, selectors_in, items_of, script_of, script_of_lines}
 use Rattle.vnff_run.specs.ItemLines.{admin_of, frame_of, item_of}
 use Rattle.vnff_run.specs.SelectLines.{is_select, kind_named, flags_named, selector_of}
 use Rattle.vnff_run.specs.Words.{number_within, bytes_within}
 use Rattle.vnff_run.specs.declared.script.Reason.{Reason}
-<<<<<<< HEAD
-use Rattle.vnff_run.specs.declared.script.Reason.TheVariants.{Version, Device, Number, Select, Hex, Room, Word}
-=======
-use Rattle.vnff_run.specs.declared.script.Reason.TheVariants.{Version, Device, Number, Select, Hex, Room, Word, Start, Unbuilt}
->>>>>>> h/scripts
+use Rattle.vnff_run.specs.declared.script.Reason.TheVariants.{Version, Device, Number, Select, Hex, Room, Word, Start}
 
 abbrev IsRefused : String → ℕ → Reason → Type 0
 IsRefused text line reason = script_of (codes text) ≡ Err (line, reason)
@@ -101,17 +93,6 @@ words_first = refl
 unknown_word : IsRefused "vnff 1\ndevice 4 2 4 8 8 15 3 ready\nframe -\nnothing\n" 4 Word
 unfolding words_of is_version after_version script_of_lines device_of device_in start_of caps_of number_within digits number_of is_select selectors_in selector_of kind_named flags_named bytes_within hex_bytes items_of item_of admin_of frame_of
 unknown_word = refl
-<<<<<<< HEAD
-=======
-
--- a command that isn't built, and that its other faults come first
-destroy : IsRefused "vnff 1\ndevice 4 2 4 8 8 15 3 ready\nadmin 0d0000000000000000000000000000000000000000000000 8\n" 3 Unbuilt
-unfolding words_of is_version after_version script_of_lines device_of device_in start_of caps_of number_within digits number_of is_select selectors_in selector_of kind_named flags_named bytes_within hex_bytes items_of item_of admin_of frame_of is_built_command header_of opcode_of le16_at le32_at le64_at
-destroy = refl
-
-room_of_destroy : IsRefused "vnff 1\ndevice 4 2 4 8 8 15 3 ready\nadmin 0d0000000000000000000000000000000000000000000000 4097\n" 3 Room
-unfolding words_of is_version after_version script_of_lines device_of device_in start_of caps_of number_within digits number_of is_select selectors_in selector_of kind_named flags_named bytes_within hex_bytes items_of item_of admin_of frame_of is_built_command header_of opcode_of le16_at le32_at le64_at
-room_of_destroy = refl
 
 -- files of a device alone
 abbrev IsRefusedDevice : String → ℕ → Reason → Type 0
@@ -130,4 +111,3 @@ device_at_reset = refl
 device_missing : IsRefusedDevice "vnff 1\n" 2 Device
 unfolding words_of is_version after_version device_file_of_lines device_in
 device_missing = refl
->>>>>>> h/scripts

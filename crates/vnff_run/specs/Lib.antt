@@ -1,8 +1,4 @@
-<<<<<<< HEAD
-=======
-pub mod Built
 pub mod DeviceFiles
->>>>>>> h/scripts
 pub mod DeviceLines
 pub mod Endings
 pub mod Forms

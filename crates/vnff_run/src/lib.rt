@@ -17,16 +17,10 @@
 //!
 //! Definitions, in specs/: `Forms` (of words), `Inputs` (what the files give, or what is at fault with them) and
 //! `Outcomes` (statuses and texts, form by form); `Grammar` (scripts), `DeviceLines`, `SelectLines` and `ItemLines`
-<<<<<<< HEAD
-//! (their lines), `Words`; `ScriptTexts` (canonical texts) and `Spellable` (which scripts have one); `Replay`
-//! (what a replay writes). `Readings`, `Endings`, `Results` and `Steering` are the code's own. Worked rows stand in
-//! `proofs/Rows.antt`, faulty texts in `proofs/GrammarExamples.antt`.
-=======
-//! (their lines), `Words`, `Built`; `DeviceFiles` (files of a device alone, which no form reads yet); `ScriptTexts`
+//! (their lines), `Words`; `DeviceFiles` (files of a device alone, which no form reads yet); `ScriptTexts`
 //! (canonical texts) and `Spellable` (which scripts have one); `Replay` (what a replay writes). `Readings`, `Endings`,
 //! `Results` and `Steering` are the code's own. The laws that stand on no other call are those of `laws`. Worked rows
 //! stand in `proofs/Rows.antt`, faulty texts in `proofs/GrammarExamples.antt`.
->>>>>>> h/scripts
 #![tactic(auto)]
 
 mod device_line;
