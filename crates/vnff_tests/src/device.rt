@@ -1,30 +1,11 @@
-//! Capabilities, objects and the device.
+//! The device: each call on its happy path. What each command is answered with, the whole-program cases show.
 
 use admin_dev::{Decision, Device, Start, no_memory};
-use admin_wire::{Command, ObjData, ObjHead};
-use arrayvec::ArrayVec;
-use cap_table::{DeviceCaps, DriverCaps, has_opcode, is_opcode_in, is_supported};
-use ff_headers::{Change, Kind, Limits, Selector};
-use ff_objects::{Objects, Verdict};
+use admin_wire::ReplyBytes;
+use cap_table::DeviceCaps;
+use ff_headers::Limits;
 use std::alloc::{AllocError, Global};
 use std::test::Fail;
-
-// The header of a create, and what follows it for group 1, classifier 7 (the Ethernet type) and rule 9 (IPv4).
-const HEADER: [u8; 24] = [
-    10, 0, 0, 0, 0, 0, 0, 0, 0, 0, 0, 0, 0, 0, 0, 0, 0, 0, 0, 0, 0, 0, 0, 0,
-];
-
-const GROUP: [u8; 18] = [0, 2, 0, 0, 1, 0, 0, 0, 0, 0, 0, 0, 0, 0, 0, 0, 5, 0];
-
-const CLASSIFIER: [u8; 46] = [
-    1, 2, 0, 0, 7, 0, 0, 0, 0, 0, 0, 0, 0, 0, 0, 0, 1, 0, 0, 0, 0, 0, 0, 0, 1, 0, 0, 0, 14, 0, 0,
-    0, 0, 0, 0, 0, 0, 0, 0, 0, 0, 0, 0, 0, 255, 255,
-];
-
-const RULE: [u8; 46] = [
-    2, 2, 0, 0, 9, 0, 0, 0, 0, 0, 0, 0, 0, 0, 0, 0, 1, 0, 0, 0, 7, 0, 0, 0, 0, 14, 2, 0, 2, 0, 0,
-    0, 0, 0, 0, 0, 0, 0, 0, 0, 0, 0, 0, 0, 8, 0,
-];
 
 const LIMITS: Limits = Limits {
     groups: 2,
@@ -35,92 +16,97 @@ const LIMITS: Limits = Limits {
     selectors: 3,
 };
 
-fn create(alloc: Global, data: &[u8]) -> Result<Vec<u8>, AllocError> {
-    let mut bytes = Vec::from_slice(alloc, &HEADER)?;
-    bytes.extend_from_slice(data)?;
-    Ok(bytes)
+const CREATE: u8 = 10;
+
+const QUERY: u8 = 12;
+
+const DESTROY: u8 = 13;
+
+const OK: [u8; 8] = [0; 8];
+
+/// The head of an object: the low byte of its type, and its id; then flags.
+fn head(kind: u8, id: u8) -> [u8; 16] {
+    [kind, 2, 0, 0, id, 0, 0, 0, 0, 0, 0, 0, 0, 0, 0, 0]
+}
+
+/// What follows the header for a group.
+fn group(id: u8, priority: u8) -> [u8; 18] {
+    [0, 2, 0, 0, id, 0, 0, 0, 0, 0, 0, 0, 0, 0, 0, 0, priority, 0]
+}
+
+/// For a classifier of these bits of the Ethernet type.
+fn classifier(id: u8, high: u8, low: u8) -> [u8; 46] {
+    [
+        1, 2, 0, 0, id, 0, 0, 0, 0, 0, 0, 0, 0, 0, 0, 0, 1, 0, 0, 0, 0, 0, 0, 0, 1, 0, 0, 0, 14, 0,
+        0, 0, 0, 0, 0, 0, 0, 0, 0, 0, 0, 0, 0, 0, high, low,
+    ]
+}
+
+/// For a rule that queues IPv4.
+fn rule(id: u8, group: u8, classifier: u8, priority: u8, vq: u8) -> [u8; 46] {
+    [
+        2, 2, 0, 0, id, 0, 0, 0, 0, 0, 0, 0, 0, 0, 0, 0, group, 0, 0, 0, classifier, 0, 0, 0,
+        priority, 14, 2, 0, vq, 0, 0, 0, 0, 0, 0, 0, 0, 0, 0, 0, 0, 0, 0, 0, 8, 0,
+    ]
+}
+
+/// Gives a device a command, commits its effect, and gives back the reply.
+fn sent(
+    device: &mut Device,
+    alloc: Global,
+    opcode: u8,
+    data: &[u8],
+    room: u64,
+) -> Result<ReplyBytes, AllocError> {
+    let mut command = Vec::from_slice(
+        alloc,
+        &[
+            opcode, 0, 0, 0, 0, 0, 0, 0, 0, 0, 0, 0, 0, 0, 0, 0, 0, 0, 0, 0, 0, 0, 0, 0,
+        ],
+    )?;
+    command.extend_from_slice(data)?;
+    let Decision { reply, effect } = device.decide(&command, room);
+    device.commit(effect);
+    Ok(reply)
+}
+
+/// How many of the commands, each an opcode and data, are answered one after another by the reply that stands with them.
+fn answered(
+    device: &mut Device,
+    alloc: Global,
+    commands: &[(u8, &[u8], [u8; 8])],
+) -> Result<usize, AllocError> {
+    for (place, (opcode, given, reply)) in commands.iter().enumerate() {
+        if sent(device, alloc, *opcode, given, 4096)?.as_slice() != reply.as_slice() {
+            return Ok(place);
+        }
+    }
+    Ok(commands.len())
+}
+
+/// The reply of a refusal.
+fn refused(status: u8, qualifier: u8) -> [u8; 8] {
+    [status, 0, qualifier, 0, 0, 0, 0, 0]
 }
 
 #[test]
-fn capabilities_hold_what_they_were_given(rt: HostRuntime) -> Result<(), Fail> {
-    let caps = DeviceCaps::with_all_selectors(4, LIMITS);
-    assert_eq!(rt; caps.pairs(), 4);
-    assert_eq!(rt; caps.limits().groups, 2);
-    assert_eq!(rt; caps.selectors().len(), 5);
-    let driver = DriverCaps::same_as(&caps);
-    assert_eq!(rt; driver.limits().groups, 2);
-    assert_eq!(rt; driver.selectors().len(), 5);
-    assert!(rt; driver.has_action(2));
-    assert!(rt; !DriverCaps::unset().has_action(2));
-    let wanted = [Selector::new(Kind::Eth, 0, &[1; 14])];
-    assert!(rt; driver.has_selectors(&wanted));
-    assert!(rt; is_supported(3, driver.selectors(), 0, &wanted[0]));
-    assert!(rt; !DriverCaps::unset().has_selectors(&wanted));
-    assert_eq!(rt; DeviceCaps::new(1, LIMITS, ArrayVec::new()).pairs(), 1);
-    assert!(rt; has_opcode(13));
-    assert!(rt; is_opcode_in(Start::Ready.opcodes(), 13));
-    assert!(rt; !is_opcode_in(Start::Reset.opcodes(), 13));
-    Ok(())
-}
-
-#[test]
-fn objects_take_a_change(rt: HostRuntime) -> Result<(), Fail> {
-    let caps = DeviceCaps::with_all_selectors(4, LIMITS);
-    let driver = DriverCaps::same_as(&caps);
-    let mut objects = Objects::new(rt.alloc(), caps.limits())?;
-    assert!(rt; objects.is_empty());
-    assert_eq!(rt; objects.limits().rules, 8);
-    let head = ObjHead {
-        type_code: 0x0200,
-        id: 1,
-        flags: 0,
-    };
-    let group = Command::Create(head, ObjData::Group(5));
-    assert_eq!(rt;
-        objects.check(&group, &caps, &driver),
-        Ok(Change::PutGroup(1, 5))
-    );
-    objects.apply(Change::PutGroup(1, 5));
-    assert!(rt; !objects.is_empty());
-    let again = Verdict {
-        status: 17,
-        qualifier: 3,
-    };
-    assert_eq!(rt; objects.check(&group, &caps, &driver), Err(again));
-    Ok(())
-}
-
-#[test]
-fn creates_a_rule(rt: HostRuntime) -> Result<(), Fail> {
+fn obeys_commands(rt: HostRuntime) -> Result<(), Fail> {
     let caps = DeviceCaps::with_all_selectors(4, LIMITS);
     let mut device = Device::new(rt.alloc(), caps, Start::Ready)?;
-    for data in [&GROUP[..], &CLASSIFIER[..], &RULE[..]] {
-        let command = create(rt.alloc(), data)?;
-        let Decision { reply, effect } = device.decide(&command, 8);
-        assert_eq!(rt; reply.as_slice(), [0; 8].as_slice());
-        device.commit(effect);
-    }
-    let again = device.decide(&create(rt.alloc(), &GROUP)?, 8);
-    assert_eq!(rt;
-        again.reply.as_slice(),
-        [17, 0, 3, 0, 0, 0, 0, 0].as_slice()
-    );
-    assert_eq!(rt;
-        no_memory(8).as_slice(),
-        [12, 0, 6, 0, 0, 0, 0, 0].as_slice()
-    );
+    let made = [
+        (CREATE, &group(1, 5)[..], OK),
+        (CREATE, &classifier(7, 255, 255)[..], OK),
+        (CREATE, &rule(9, 1, 7, 0, 2)[..], OK),
+        (CREATE, &group(1, 5)[..], refused(17, 3)),
+        (DESTROY, &head(0, 1)[..], refused(16, 1)),
+    ];
+    assert_eq!(rt; answered(&mut device, rt.alloc(), &made)?, made.len());
+    let told = sent(&mut device, rt.alloc(), QUERY, &head(0, 1), 64)?;
+    assert_eq!(rt; told.as_slice(), [0, 0, 0, 0, 0, 0, 0, 0, 5, 0].as_slice());
     Ok(())
 }
 
-// Before the driver sets anything, a create's opcode isn't in use.
 #[test]
-fn starts_with_nothing_set(rt: HostRuntime) -> Result<(), Fail> {
-    let caps = DeviceCaps::with_all_selectors(4, LIMITS);
-    let device = Device::new(rt.alloc(), caps, Start::Reset)?;
-    let refused = device.decide(&create(rt.alloc(), &GROUP)?, 8);
-    assert_eq!(rt;
-        refused.reply.as_slice(),
-        [22, 0, 2, 0, 0, 0, 0, 0].as_slice()
-    );
-    Ok(())
+fn want_of_memory_has_a_reply(rt: HostRuntime) {
+    assert_eq!(rt; no_memory(8).as_slice(), refused(12, 6).as_slice());
 }

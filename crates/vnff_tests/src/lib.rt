@@ -4,6 +4,8 @@
 #![tactic(auto)]
 
 #[cfg(test)]
+mod capabilities;
+#[cfg(test)]
 mod commands;
 #[cfg(test)]
 mod device;
@@ -15,6 +17,8 @@ mod maps;
 mod numbers;
 #[cfg(test)]
 mod objects;
+#[cfg(test)]
+mod run;
 #[cfg(test)]
 mod store;
 #[cfg(test)]
