@@ -1,0 +1,4 @@
+pub mod PieceLemmas
+pub mod ChainLemmas
+pub mod RoundLemmas
+pub mod QueueLemmas

@@ -1,0 +1,4 @@
+pub mod BenchPlaces
+pub mod BenchState
+pub mod HeldCommands
+pub mod Rounds

@@ -1,0 +1,22 @@
+//! A network device and the ring through which its commands come: the parts below, put together.
+//!
+//! A [`Bench`] is one device, the tables that its frames are searched in, and a split virtqueue of 64 descriptors in
+//! 8,192 bytes of guest memory. The rings are laid out as in the Virtio 1.4 draft ("Split Virtqueues"); the places of
+//! the bench, and how a command is cut into pieces, are this project's own.
+//!
+//! [`Bench::admin`] promises that the reply and the state that it leaves are one step of the object machine, that the
+//! tables stand for the state's objects at every moment, and that the command really lies in the ring: the chain that
+//! was posted last has the command as its readable part, its writable buffers begin with the reply, and the used
+//! element that was written last names the chain and the reply's length. [`Bench::frame`] promises the action of the
+//! first rule that matches, and that a queue is below the device's queue pairs. Only [`Bench::new`] takes memory.
+//!
+//! In specs/, `BenchPlaces` has the places and the pieces, `BenchState` what contracts see of a bench and what it keeps
+//! between two commands, `HeldCommands` when a command lies in the ring, and `Rounds` the memory on the way.
+#![tactic(auto)]
+
+mod bench;
+mod fresh;
+mod pieces;
+mod round;
+
+pub use bench::Bench;
