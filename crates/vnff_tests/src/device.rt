@@ -7,7 +7,7 @@ use ff_headers::Limits;
 use std::alloc::{AllocError, Global};
 use std::test::Fail;
 
-pub(crate) const LIMITS: Limits = Limits {
+const LIMITS: Limits = Limits {
     groups: 2,
     classifiers: 4,
     rules: 8,
@@ -16,7 +16,7 @@ pub(crate) const LIMITS: Limits = Limits {
     selectors: 3,
 };
 
-pub(crate) const CREATE: u8 = 10;
+const CREATE: u8 = 10;
 
 const QUERY: u8 = 12;
 
@@ -30,12 +30,12 @@ fn head(kind: u8, id: u8) -> [u8; 16] {
 }
 
 /// What follows the header for a group.
-pub(crate) fn group(id: u8, priority: u8) -> [u8; 18] {
+fn group(id: u8, priority: u8) -> [u8; 18] {
     [0, 2, 0, 0, id, 0, 0, 0, 0, 0, 0, 0, 0, 0, 0, 0, priority, 0]
 }
 
 /// For a classifier of these bits of the Ethernet type.
-pub(crate) fn classifier(id: u8, high: u8, low: u8) -> [u8; 46] {
+fn classifier(id: u8, high: u8, low: u8) -> [u8; 46] {
     [
         1, 2, 0, 0, id, 0, 0, 0, 0, 0, 0, 0, 0, 0, 0, 0, 1, 0, 0, 0, 0, 0, 0, 0, 1, 0, 0, 0, 14, 0,
         0, 0, 0, 0, 0, 0, 0, 0, 0, 0, 0, 0, 0, 0, high, low,
@@ -43,21 +43,11 @@ pub(crate) fn classifier(id: u8, high: u8, low: u8) -> [u8; 46] {
 }
 
 /// For a rule that queues IPv4.
-pub(crate) fn rule(id: u8, group: u8, classifier: u8, priority: u8, vq: u8) -> [u8; 46] {
+fn rule(id: u8, group: u8, classifier: u8, priority: u8, vq: u8) -> [u8; 46] {
     [
         2, 2, 0, 0, id, 0, 0, 0, 0, 0, 0, 0, 0, 0, 0, 0, group, 0, 0, 0, classifier, 0, 0, 0,
         priority, 14, 2, 0, vq, 0, 0, 0, 0, 0, 0, 0, 0, 0, 0, 0, 0, 0, 0, 0, 8, 0,
     ]
-}
-
-/// The bytes of a command: the header of its opcode, and what follows it.
-pub(crate) fn command(alloc: Global, opcode: u8, data: &[u8]) -> Result<Vec<u8>, AllocError> {
-    let header = [
-        opcode, 0, 0, 0, 0, 0, 0, 0, 0, 0, 0, 0, 0, 0, 0, 0, 0, 0, 0, 0, 0, 0, 0, 0,
-    ];
-    let mut bytes = Vec::from_slice(alloc, &header)?;
-    bytes.extend_from_slice(data)?;
-    Ok(bytes)
 }
 
 /// Gives a device a command, commits its effect, and gives back the reply.
@@ -68,8 +58,14 @@ fn sent(
     data: &[u8],
     room: u64,
 ) -> Result<ReplyBytes, AllocError> {
-    let bytes = command(alloc, opcode, data)?;
-    let Decision { reply, effect } = device.decide(&bytes, room);
+    let mut command = Vec::from_slice(
+        alloc,
+        &[
+            opcode, 0, 0, 0, 0, 0, 0, 0, 0, 0, 0, 0, 0, 0, 0, 0, 0, 0, 0, 0, 0, 0, 0, 0,
+        ],
+    )?;
+    command.extend_from_slice(data)?;
+    let Decision { reply, effect } = device.decide(&command, room);
     device.commit(effect);
     Ok(reply)
 }
