@@ -1,0 +1,4 @@
+pub mod HeaderFields
+pub mod SpecFits
+pub mod Selected
+pub mod Compiled
