@@ -1,2 +1,7 @@
 pub mod FitLemmas
+pub mod HeaderLemmas
+pub mod JoinedNumbers
+pub mod MaskedBytes
+pub mod MaskedFields
+pub mod Bridge
 mod CompileExamples

@@ -1,7 +1,7 @@
--- When the headers of a frame fit a spec of a table, and what a table does with a frame. That a spec names fields of the
--- frame's headers as numbers, that a bit which is set in its mask isn't compared, and that the least location decides,
--- is ethtool's (ethtool(8), the ntuple options; `struct ethtool_rx_flow_spec` of linux/ethtool.h). Which flows and
--- fields there are, and which headers a flow names, is this project's own.
+-- When the headers of a frame fit a spec of a table, and what a table does with a frame. That a spec gives values for
+-- fields of headers, that a bit which is set in a mask isn't compared, and that the least location decides, is
+-- ethtool's (ethtool(8), the ntuple options; `struct ethtool_rx_flow_spec` of linux/ethtool.h). Which flows and fields
+-- there are, and which headers a flow names, is this project's own.
 use Rattle.std.specs.Prelude.{ℕ, ◌≡◌, ◌<◌, Bool, true, false, bit_or, ◌==◌, List, [], ◌∷◌, Option, Some, None, IsTrue}
 use Rattle.std.specs.Prelude.{find, filter_map}
 use Rattle.std.specs.List.{list_all}
@@ -48,7 +48,8 @@ named f part = record { place = f; given = part }
 
 -- the fields of a header that a spec can name, in their order there
 abbrev pub named_fields : Spec → Kind → List NamedField
-named_fields spec Eth = named ether_destination spec.dst ∷ named ether_source spec.src ∷ named ether_type spec.proto ∷ []
+named_fields spec Eth =
+    named ether_destination spec.dst ∷ named ether_source spec.src ∷ named ether_type spec.proto ∷ []
 named_fields spec Ipv4 =
     named ipv4_service spec.class ∷ named ipv4_protocol spec.proto ∷ named ipv4_source spec.src
     ∷ named ipv4_destination spec.dst ∷ []

@@ -7,8 +7,10 @@
 //!
 //! So far the crate has the definitions, in specs/: `HeaderFields` and `SpecFits` (when a frame fits a spec, and what a
 //! table does with it: fields as numbers, with no selector, key or mask of bytes), `Selected` (the selectors and the key
-//! of a spec) and `Compiled` (the objects and commands of a table, and the refusals). It promises in `laws` that a spec
-//! agrees with a field bit by bit where nothing is skipped, and that the least location decides.
+//! of a spec) and `Compiled` (the objects and commands of a table, and the refusals). It promises in `laws` that a given
+//! field agrees with a frame's bit by bit, that the least location decides, and that a frame matches the selectors and
+//! the key of a spec exactly where it fits the spec.
+//!
 //! Worked examples stand in `proofs/CompileExamples.antt`.
 #![tactic(auto)]
 
