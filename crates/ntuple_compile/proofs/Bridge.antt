@@ -27,11 +27,11 @@ use Rattle.ntuple_text.specs.declared.spec.Flow.TheVariants.{Ether, Ip4, Tcp4, U
 use Rattle.ntuple_text.specs.declared.spec.Part.{Part}
 use Rattle.ntuple_text.specs.declared.spec.Spec.{Spec}
 use Rattle.ntuple_compile.specs.SpecFits.{agrees, fields_agree, header_agrees, kinds_of, named_fields, spec_fits}
-use Rattle.ntuple_compile.specs.Selected.{mask_field, key_field, given_for, joined, mask_for, key_part, selector_of_mask, selectors_of, key_for}
+use Rattle.ntuple_compile.specs.Selected.{IsPartOf, mask_field, key_field, given_for, joined, mask_for, key_part, selector_of_mask, selectors_of, key_for}
 use Rattle.ntuple_compile.proofs.HeaderLemmas.{AreHeaders, headers_are_sound}
 use Rattle.ntuple_compile.proofs.JoinedNumbers.{EachFits, sized, bits_of_kind, joined_below, and_joined, joined_same, header_is_joined, values_fit}
 use Rattle.ntuple_compile.proofs.MaskedBytes.{length-bytes, bytes_are_bytes, number-bytes, length-masked, masked_are_bytes, number-masked, same_bytes}
-use Rattle.ntuple_compile.proofs.MaskedFields.{IsPartOf, mask_fits, key_fits, field_agrees}
+use Rattle.ntuple_compile.proofs.MaskedFields.{mask_fits, key_fits, field_agrees}
 
 -- ---- the fields of one header
 

@@ -1,18 +1,12 @@
 -- A field agrees with what is given for it exactly where it equals the key's field under the mask's.
 use Rattle.std.proofs.Common.{◌≡◌, ℕ, ◌+◌, ◌-◌, ◌^◌, ◌<◌, eqb, Option, Some, None, refl, sym, ap, ◌∙◌, arith, bit_and, bit_or}
-use Rattle.std.specs.Prelude.{⊤}
 use Rattle.std.specs.Int.Bits.{and_self, and_zero_r, or_add_and}
 use Rattle.std.proofs.Math.Nat.{add_right_cancel}
 use Rattle.std.proofs.lemmas.Nat.{pow_pos, and_le_r, and_comm, and_assoc, and-not}
 use Rattle.std.proofs.lemmas.Bool.Decides.{Decides-eqb, Decides-like, same_from_decides}
 use Rattle.ntuple_text.specs.declared.spec.Part.{Part}
 use Rattle.ntuple_compile.specs.SpecFits.{agrees}
-use Rattle.ntuple_compile.specs.Selected.{mask_field, key_field}
-
--- a part of so many bits, if there is one
-abbrev pub IsPartOf : ℕ → Option Part → Type 0
-IsPartOf bits None = ⊤
-IsPartOf bits (Some part) = (part.value < 2 ^ bits) × (part.skip < 2 ^ bits)
+use Rattle.ntuple_compile.specs.Selected.{IsPartOf, mask_field, key_field}
 
 pub mask_fits : (bits : ℕ) (given : Option Part) → IsPartOf bits given → mask_field bits given < 2 ^ bits
 mask_fits bits None part = pow_pos bits

@@ -1,7 +1,7 @@
 -- The selectors and the key by which a rule compares what a spec of a table gives. The masks and keys are those of the
 -- Virtio 1.4 draft's flow filters (virtio_net_ff.h); that bits which aren't compared are 0 in both, and when the flag
 -- PARTIAL_MASK is set, is this project's own.
-use Rattle.std.specs.Prelude.{ℕ, ◌+◌, ◌-◌, ◌*◌, ◌^◌, Bool, not, ◌&&◌, ◌==◌, if◌then◌else◌, bit_and, List, [], ◌∷◌, map, Option, Some, None}
+use Rattle.std.specs.Prelude.{ℕ, ⊤, ◌<◌, ◌+◌, ◌-◌, ◌*◌, ◌^◌, Bool, not, ◌&&◌, ◌==◌, if◌then◌else◌, bit_and, List, [], ◌∷◌, map, Option, Some, None}
 use Rattle.std.specs.Prelude.{find, flat_map, option_and_then}
 use Rattle.std.specs.List.{list_any}
 use Rattle.std.specs.Int.{bytes_high_first}
@@ -15,6 +15,11 @@ use Rattle.ntuple_text.specs.declared.spec.Spec.{Spec}
 use Rattle.ntuple_compile.specs.SpecFits.{NamedField, named_fields, kinds_of}
 
 -- ---- one field
+
+-- what is given for a field, if anything is, has no more than so many bits
+abbrev pub IsPartOf : ℕ → Option Part → Type 0
+IsPartOf bits None = ⊤
+IsPartOf bits (Some part) = (part.value < 2 ^ bits) × (part.skip < 2 ^ bits)
 
 -- a mask's field: a one for each bit that is compared
 abbrev pub mask_field : ℕ → Option Part → ℕ
@@ -60,10 +65,13 @@ mask_for spec kind = header_with mask_field spec kind
 unfoldable pub key_part : Spec → Kind → List ℕ
 key_part spec kind = header_with key_field spec kind
 
--- some field of a mask is neither zero nor all ones
+-- a field of a mask is neither zero nor all ones
+abbrev pub is_part_of_field : List ℕ → Field → Bool
+is_part_of_field mask f = not (value_at f mask == 0) && not (value_at f mask == 2 ^ f.bits - 1)
+
+-- some field of a mask is
 abbrev pub asks_for_parts : Kind → List ℕ → Bool
-asks_for_parts kind mask =
-    list_any (λ f. not (value_at f mask == 0) && not (value_at f mask == 2 ^ f.bits - 1)) (fields_of kind)
+asks_for_parts kind mask = list_any (is_part_of_field mask) (fields_of kind)
 
 -- the flags of a selector with this mask: PARTIAL_MASK, bit 0
 abbrev pub flags_for : Kind → List ℕ → ℕ

@@ -16,5 +16,6 @@
 
 mod error;
 pub mod laws;
+mod selected;
 
 pub use error::CompileErr;

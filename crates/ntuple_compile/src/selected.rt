@@ -1,0 +1,113 @@
+//! What the selectors and the key of a spec are made of.
+
+ghost use Rattle.std.specs.Prelude.{◌≡◌, ◌-◌, ◌^◌, ◌<◌, ◌≤◌, length, All};
+ghost use Rattle.std.specs.List.{list_any};
+ghost use Rattle.ff_headers.specs.Fields.{LiesWithin};
+ghost use Rattle.ff_headers.specs.Kinds.{kind_size};
+ghost use Rattle.ntuple_compile.specs.SpecFits.{kinds_of};
+ghost use Rattle.ntuple_compile.specs.Selected.{IsPartOf, flags_for, is_part_of_field, key_field, mask_field};
+
+use ff_headers::{Field, Kind, fields_of};
+use ntuple_text::{Flow, Part};
+
+const ETHER: [Kind; 1] = [Kind::Eth];
+
+const IP4: [Kind; 1] = [Kind::Ipv4];
+
+const TCP4: [Kind; 2] = [Kind::Ipv4, Kind::Tcp];
+
+const UDP4: [Kind; 2] = [Kind::Ipv4, Kind::Udp];
+
+const IP6: [Kind; 1] = [Kind::Ipv6];
+
+const TCP6: [Kind; 2] = [Kind::Ipv6, Kind::Tcp];
+
+const UDP6: [Kind; 2] = [Kind::Ipv6, Kind::Udp];
+
+/// The flag of a selector whose mask has a part of a field.
+const PARTIAL_MASK: u8 = 1;
+
+/// The headers that a flow names.
+pub(crate) fn kinds_of(flow: Flow) -> &'static [Kind]
+    ensures { result.now ≡ kinds_of flow }
+{
+    match flow {
+        Flow::Ether => &ETHER,
+        Flow::Ip4 => &IP4,
+        Flow::Tcp4 => &TCP4,
+        Flow::Udp4 => &UDP4,
+        Flow::Ip6 => &IP6,
+        Flow::Tcp6 => &TCP6,
+        Flow::Udp6 => &UDP6,
+    }
+}
+
+/// A mask's field: a one for each bit that is compared.
+pub(crate) fn mask_field(bits: usize, given: Option<Part>) -> u128
+    requires few { bits ≤ 128 }
+    requires part { IsPartOf bits given }
+    ensures { result ≡ mask_field bits given }
+{
+    match given {
+        Some(part) => ones(bits) - part.skip,
+        None => 0,
+    }
+}
+
+/// A key's field: the value's bits where the mask has ones.
+pub(crate) fn key_field(bits: usize, given: Option<Part>) -> u128
+    requires few { bits ≤ 128 }
+    requires part { IsPartOf bits given }
+    ensures { result ≡ key_field bits given }
+{
+    match given {
+        Some(part) => part.value & mask_field(bits, given),
+        None => 0,
+    }
+}
+
+/// The number of so many ones.
+fn ones(bits: usize) -> u128
+    requires { bits ≤ 128 }
+    ensures { result ≡ 2 ^ bits - 1 }
+{
+    if bits < 128 {
+        (1 << bits) - 1
+    } else {
+        u128::MAX
+    }
+}
+
+/// The flags of the selector of a header with this mask.
+pub(crate) fn flags_for(kind: Kind, mask: &[u8]) -> u8
+    requires { length mask.now ≡ kind_size kind }
+    ensures { result ≡ flags_for kind mask.now }
+{
+    if has_part(mask, fields_of(kind)) {
+        PARTIAL_MASK
+    } else {
+        0
+    }
+}
+
+/// Whether the mask has a part of one of the fields.
+fn has_part(mask: &[u8], fields: &[Field]) -> bool
+    requires { All (LiesWithin (length mask.now)) fields.now }
+    ensures { result ≡ list_any (is_part_of_field mask.now) fields.now }
+{
+    for field in fields {
+        if is_part_of_field(mask, field) {
+            return true;
+        }
+    }
+    false
+}
+
+/// Whether the mask has some bits of the field, and not all.
+fn is_part_of_field(mask: &[u8], field: &Field) -> bool
+    requires { LiesWithin (length mask.now) field.now }
+    ensures { result ≡ is_part_of_field mask.now field.now }
+{
+    let value = field.value_at(mask);
+    value != 0 && value != ones(field.bits)
+}
