@@ -15,6 +15,7 @@
 #![tactic(auto)]
 
 mod error;
+mod header;
 pub mod laws;
 mod selected;
 
