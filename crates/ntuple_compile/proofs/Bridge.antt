@@ -1,6 +1,6 @@
 -- A frame matches the selectors and the key of a spec exactly where it fits the spec.
-use Rattle.std.proofs.Common.{◌≡◌, ℕ, ◌*◌, ◌^◌, ◌<◌, ◌&&◌, eqb, List, [], ◌∷◌, ◌++◌, map, length, take, drop, Option, Some, None, refl, sym, ap, ◌∙◌, arith, subst, bit_and}
-use Rattle.std.specs.Prelude.{⊤, flat_map}
+use Rattle.std.proofs.Common.{◌≡◌, ℕ, zero, suc, ◌*◌, ◌^◌, ◌<◌, ◌&&◌, eqb, List, [], ◌∷◌, ◌++◌, map, length, take, drop, Option, Some, None, refl, sym, ap, ◌∙◌, arith, subst, bit_and}
+use Rattle.std.specs.Prelude.{⊤, flat_map, All}
 use Rattle.std.specs.List.{list_all}
 use Rattle.std.specs.Int.{bytes_high_first}
 use Rattle.std.specs.Cmp.Lexicographic.{pointwise}
@@ -40,15 +40,25 @@ abbrev given : Spec → Kind → Field → Option Part
 given spec kind f = given_for (named_fields spec kind) f
 
 -- what is given for each field has the field's bits
-abbrev EachIsPart : (Field → Option Part) → List Field → Type 0
+abbrev pub EachIsPart : (Field → Option Part) → List Field → Type 0
 EachIsPart given [] = ⊤
 EachIsPart given (f ∷ fields) = IsPartOf f.bits (given f) × EachIsPart given fields
 
-masks_fit : (given : Field → Option Part) (fields : List Field) → EachIsPart given fields → EachFits (λ f. mask_field f.bits (given f)) fields
+pub each_is_part : (given : Field → Option Part) (fields : List Field) → All (λ f. IsPartOf f.bits (given f)) fields → EachIsPart given fields
+each_is_part given [] all = tt
+each_is_part given (f ∷ fields) all =
+    (all 0 f (omega arith), each_is_part given fields (λ k d inside. all (suc k) d (omega (arith, inside))))
+
+pub all_are_parts : (given : Field → Option Part) (fields : List Field) → EachIsPart given fields → All (λ f. IsPartOf f.bits (given f)) fields
+all_are_parts given [] parts k d inside = absurd (omega (arith, inside))
+all_are_parts given (f ∷ fields) parts zero d inside = parts.0
+all_are_parts given (f ∷ fields) parts (suc k) d inside = all_are_parts given fields parts.1 k d (omega (arith, inside))
+
+pub masks_fit : (given : Field → Option Part) (fields : List Field) → EachIsPart given fields → EachFits (λ f. mask_field f.bits (given f)) fields
 masks_fit given [] parts = tt
 masks_fit given (f ∷ fields) parts = (mask_fits f.bits (given f) parts.0, masks_fit given fields parts.1)
 
-keys_fit : (given : Field → Option Part) (fields : List Field) → EachIsPart given fields → EachFits (λ f. key_field f.bits (given f)) fields
+pub keys_fit : (given : Field → Option Part) (fields : List Field) → EachIsPart given fields → EachFits (λ f. key_field f.bits (given f)) fields
 keys_fit given [] parts = tt
 keys_fit given (f ∷ fields) parts = (key_fits f.bits (given f) parts.0, keys_fit given fields parts.1)
 
@@ -72,7 +82,7 @@ named_agree spec Udp header = refl
 -- ---- one header
 
 -- the number of a header with given fields
-header_number : (kind : Kind) (value : Field → ℕ) → EachFits value (fields_of kind) → number (bytes_high_first (kind_size kind) (joined (sized value (fields_of kind)))) ≡ joined (sized value (fields_of kind))
+pub header_number : (kind : Kind) (value : Field → ℕ) → EachFits value (fields_of kind) → number (bytes_high_first (kind_size kind) (joined (sized value (fields_of kind)))) ≡ joined (sized value (fields_of kind))
 header_number kind value fit =
     let below = joined_below value (fields_of kind) fit in
     let fits : joined (sized value (fields_of kind)) < 2 ^ (8 * kind_size kind) = subst (λ (n : ℕ). joined (sized value (fields_of kind)) < 2 ^ n) (bits_of_kind kind) below in

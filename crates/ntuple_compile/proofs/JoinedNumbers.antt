@@ -31,7 +31,7 @@ total_same : (value : Field → ℕ) (fields : List Field) → total_bits (sized
 total_same value [] = refl
 total_same value (f ∷ fields) = ap (λ n. f.bits + n) (total_same value fields)
 
-joined-cons : (value : Field → ℕ) (f : Field) (fields : List Field) → joined (sized value (f ∷ fields)) ≡ value f * 2 ^ bits_of fields + joined (sized value fields)
+pub joined-cons : (value : Field → ℕ) (f : Field) (fields : List Field) → joined (sized value (f ∷ fields)) ≡ value f * 2 ^ bits_of fields + joined (sized value fields)
 joined-cons value f fields = ap (λ n. value f * 2 ^ n + joined (sized value fields)) (total_same value fields)
 
 pub joined_below : (value : Field → ℕ) (fields : List Field) → EachFits value fields → joined (sized value fields) < 2 ^ bits_of fields
@@ -67,7 +67,7 @@ joined_same a b (f ∷ fields) fa fb =
 -- ---- a header's fields, joined
 
 -- the fields stand one behind the other, from a bit to an end
-abbrev InRow : ℕ → List Field → ℕ → Type 0
+abbrev pub InRow : ℕ → List Field → ℕ → Type 0
 InRow at [] end = at ≡ end
 InRow at (f ∷ fields) end = (f.first ≡ at) × InRow (at + f.bits) fields end
 
@@ -75,7 +75,7 @@ row_ends : (at : ℕ) (fields : List Field) (end : ℕ) → InRow at fields end 
 row_ends at [] end row = omega (arith, row)
 row_ends at (f ∷ fields) end row = omega (arith, row_ends (at + f.bits) fields end row.1)
 
-fields_in_row : (kind : Kind) → InRow 0 (fields_of kind) (8 * kind_size kind)
+pub fields_in_row : (kind : Kind) → InRow 0 (fields_of kind) (8 * kind_size kind)
 fields_in_row Eth = (refl, (refl, (refl, refl)))
 fields_in_row Ipv4 = (refl, (refl, (refl, (refl, (refl, (refl, (refl, (refl, (refl, (refl, (refl, (refl, refl))))))))))))
 fields_in_row Ipv6 = (refl, (refl, (refl, (refl, (refl, (refl, (refl, (refl, refl))))))))

@@ -3,6 +3,6 @@ pub mod HeaderLemmas
 pub mod JoinedNumbers
 pub mod MaskedBytes
 pub mod MaskedFields
-pub mod WrittenLemmas
 pub mod Bridge
+pub mod WrittenLemmas
 mod CompileExamples

@@ -1,14 +1,22 @@
 -- What stands written after a further field.
-use Rattle.std.proofs.Common.{◌≡◌, ℕ, zero, suc, ◌+◌, ◌-◌, ◌*◌, ◌/◌, ◌%◌, ◌^◌, ◌<◌, ◌≤◌, List, [], ◌∷◌, ◌++◌, length, get_or, take, drop, refl, sym, ap, ◌∙◌, arith}
+use Rattle.std.proofs.Common.{◌≡◌, ℕ, zero, suc, ◌+◌, ◌-◌, ◌*◌, ◌/◌, ◌%◌, ◌^◌, ◌<◌, ◌≤◌, List, [], ◌∷◌, ◌++◌, length, get_or, take, drop, sym, ap, ◌∙◌, arith, subst}
 use Rattle.std.specs.Int.{bytes_high_first, to_be_bytes, w128}
 use Rattle.std.proofs.Math.Nat.{mod-lt, mod-eq_of_lt, add-mul, mul_assoc}
 use Rattle.std.proofs.Math.Seq.{take-length}
 use Rattle.std.proofs.lemmas.Nat.{pow_pos, pow-add, shr_split, field_of, mul-add-lt}
-use Rattle.std.proofs.lemmas.List.{length-append}
-use Rattle.ff_headers.specs.Fields.{number}
+use Rattle.std.proofs.lemmas.List.{length-append, take_more, take_all}
+use Rattle.std.specs.Cmp.Lexicographic.{bytes_decides}
+use Rattle.std.proofs.lemmas.Bool.{eq-eqb}
+use Rattle.ff_headers.specs.Fields.{number, fields_of}
+use Rattle.ff_headers.specs.Kinds.{kind_size}
+use Rattle.ff_headers.specs.declared.field.Field.{Field}
+use Rattle.ff_headers.specs.declared.kind.Kind.{Kind}
 use Rattle.ff_headers.proofs.FieldLemmas.{AreBytes, number-append}
 use Rattle.ntuple_compile.specs.Written.{Spells}
-use Rattle.ntuple_compile.proofs.MaskedBytes.{length-bytes, bytes_are_bytes, number-bytes}
+use Rattle.ntuple_compile.specs.Selected.{joined}
+use Rattle.ntuple_compile.proofs.JoinedNumbers.{EachFits, InRow, bits_of, bits_of_kind, fields_in_row, joined-cons, sized}
+use Rattle.ntuple_compile.proofs.MaskedBytes.{length-bytes, bytes_are_bytes, number-bytes, same_bytes}
+use Rattle.ntuple_compile.proofs.Bridge.{header_number}
 
 -- the lowest bytes of a number
 pub drop-bytes : (j k n : ℕ) → drop j (bytes_high_first (j + k) n) ≡ bytes_high_first k n
@@ -62,3 +70,59 @@ put_more first bits n value bytes rest vs h =
       small = rw same_rest (mod-lt all (pow_pos r));
       are_bytes = are_bytes-append bytes more h.are_bytes (bytes_are_bytes k (all / 2 ^ r));
     }
+
+-- ---- all fields of a header
+
+bits_of-append : (xs : List Field) (f : Field) → bits_of (xs ++ f ∷ []) ≡ bits_of xs + f.bits
+bits_of-append [] f = omega arith
+bits_of-append (x ∷ xs) f = omega (arith, bits_of-append xs f)
+
+joined-append : (value : Field → ℕ) (xs : List Field) (f : Field) → joined (sized value (xs ++ f ∷ [])) ≡ joined (sized value xs) * 2 ^ f.bits + value f
+joined-append value [] f = omega arith
+joined-append value (x ∷ xs) f =
+    let wide : 2 ^ bits_of (xs ++ f ∷ []) ≡ 2 ^ bits_of xs * 2 ^ f.bits = ap (λ (k : ℕ). 2 ^ k) (bits_of-append xs f) ∙ pow-add 2 (bits_of xs) f.bits in
+    let sides = regroup (value x) (2 ^ bits_of xs) (joined (sized value xs)) (2 ^ f.bits) (value f) in
+    rw (joined-cons value x (xs ++ f ∷ []), joined-cons value x xs, wide, joined-append value xs f) (sym sides)
+
+-- what the fields in front of a place have, written
+abbrev pub Written : (Field → ℕ) → List Field → ℕ → List ℕ → ℕ → Type 0
+Written value fields i bytes rest = Spells (bits_of (take i fields)) (joined (sized value (take i fields))) bytes rest
+
+pub none_written : (value : Field → ℕ) (fields : List Field) → Written value fields 0 [] 0
+none_written value fields = record { spelled = omega arith; size = omega arith; small = omega arith; are_bytes = λ k. omega arith }
+
+-- one field more
+pub next_written : (value : Field → ℕ) (fields : List Field) (i : ℕ) (d : Field) (bytes more : List ℕ) (rest last : ℕ) → i < length fields → (get_or fields i d).first ≡ bits_of (take i fields) → ((n : ℕ) → Spells (get_or fields i d).first n bytes rest → Spells ((get_or fields i d).first + (get_or fields i d).bits) (n * 2 ^ (get_or fields i d).bits + value (get_or fields i d)) more last) → Written value fields i bytes rest → Written value fields (i + 1) more last
+next_written value fields i d bytes more rest last inside at puts h =
+    let f = get_or fields i d in
+    let front = take i fields in
+    let n = joined (sized value front) in
+    let put = puts n (subst (λ k. Spells k n bytes rest) (sym at) h) in
+    let one = take_more fields i d inside in
+    let bits : f.first + f.bits ≡ bits_of (take (i + 1) fields) = ap (λ k. k + f.bits) at ∙ sym (bits_of-append front f) ∙ ap bits_of (sym one) in
+    let all : n * 2 ^ f.bits + value f ≡ joined (sized value (take (i + 1) fields)) = sym (joined-append value front f) ∙ ap (λ xs. joined (sized value xs)) (sym one) in
+    subst (λ k. Spells k (joined (sized value (take (i + 1) fields))) more last) bits (subst (λ m. Spells (f.first + f.bits) m more last) all put)
+
+-- a field begins where those in front of it end
+pub field_begins : (kind : Kind) (i : ℕ) (d : Field) → i < length (fields_of kind) → (get_or (fields_of kind) i d).first ≡ bits_of (take i (fields_of kind))
+field_begins kind i d inside = omega (arith, begins 0 (fields_of kind) (fields_in_row kind) i inside) where
+  begins : (at : ℕ) (fields : List Field) → InRow at fields (8 * kind_size kind) → (i : ℕ) → i < length fields → (get_or fields i d).first ≡ at + bits_of (take i fields)
+  begins at [] row i inside = absurd (omega (arith, inside))
+  begins at (f ∷ fields) row zero inside = omega (arith, row.0)
+  begins at (f ∷ fields) row (suc i) inside = omega (arith, begins (at + f.bits) fields row.1 i (omega (arith, inside)))
+
+same_list : (xs ys : List ℕ) → length xs ≡ length ys → AreBytes xs → AreBytes ys → number xs ≡ number ys → xs ≡ ys
+same_list xs ys long xb yb same = (bytes_decides xs ys).0 (same_bytes xs ys long xb yb ∙ eq-eqb (number xs) (number ys) same)
+
+-- all fields
+pub all_written : (kind : Kind) (value : Field → ℕ) (i : ℕ) (bytes : List ℕ) (rest : ℕ) → EachFits value (fields_of kind) → length (fields_of kind) ≤ i → Written value (fields_of kind) i bytes rest → bytes ≡ bytes_high_first (kind_size kind) (joined (sized value (fields_of kind)))
+all_written kind value i bytes rest fit past h =
+    let n = joined (sized value (fields_of kind)) in
+    let whole : take i (fields_of kind) ≡ fields_of kind = take_all i (fields_of kind) past in
+    let all : Spells (8 * kind_size kind) n bytes rest = subst (λ k. Spells k n bytes rest) (bits_of_kind kind) (subst (λ xs. Spells (bits_of xs) (joined (sized value xs)) bytes rest) whole h) in
+    let even : 8 * kind_size kind % 8 ≡ 0 = omega arith in
+    let small : rest < 2 ^ 0 = subst (λ (k : ℕ). rest < 2 ^ k) even all.small in
+    let spelled : number bytes * 2 ^ 0 + rest ≡ n = subst (λ (k : ℕ). number bytes * 2 ^ k + rest ≡ n) even all.spelled in
+    let size : length bytes ≡ kind_size kind = omega (arith, all.size) in
+    let same : number bytes ≡ n = omega (arith, spelled, small) in
+    same_list bytes (bytes_high_first (kind_size kind) n) (size ∙ sym (length-bytes (kind_size kind) n)) all.are_bytes (bytes_are_bytes (kind_size kind) n) (same ∙ sym (header_number kind value fit))

@@ -1,7 +1,7 @@
 -- The selectors and the key by which a rule compares what a spec of a table gives. The masks and keys are those of the
 -- Virtio 1.4 draft's flow filters (virtio_net_ff.h); that bits which aren't compared are 0 in both, and when the flag
 -- PARTIAL_MASK is set, is this project's own.
-use Rattle.std.specs.Prelude.{ℕ, ⊤, ◌<◌, ◌+◌, ◌-◌, ◌*◌, ◌^◌, Bool, not, ◌&&◌, ◌==◌, if◌then◌else◌, bit_and, List, [], ◌∷◌, map, Option, Some, None}
+use Rattle.std.specs.Prelude.{ℕ, ⊤, ◌<◌, ◌+◌, ◌-◌, ◌*◌, ◌^◌, Bool, not, ◌&&◌, ◌==◌, if◌then◌else◌, bit_and, List, [], ◌∷◌, map, Option, Some, None, All}
 use Rattle.std.specs.Prelude.{find, flat_map, option_and_then}
 use Rattle.std.specs.List.{list_any}
 use Rattle.std.specs.Int.{bytes_high_first}
@@ -50,6 +50,10 @@ joined (one ∷ rest) = one.1 * 2 ^ total_bits rest + joined rest
 -- what is given for a field: nothing where it isn't named
 abbrev pub given_for : List NamedField → Field → Option Part
 given_for fields f = option_and_then (λ one. one.given) (find (λ one. one.place.first == f.first) fields)
+
+-- what a spec gives for the fields of a header has no more than their bits
+abbrev pub AreGivenIn : Spec → Kind → Type 0
+AreGivenIn spec kind = All (λ f. IsPartOf f.bits (given_for (named_fields spec kind) f)) (fields_of kind)
 
 -- the bytes of a header whose fields have what `value` says of their bits and of what a spec gives for them
 abbrev pub header_with : (ℕ → Option Part → ℕ) → Spec → Kind → List ℕ

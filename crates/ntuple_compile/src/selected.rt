@@ -4,11 +4,14 @@ ghost use Rattle.std.specs.Prelude.{◌≡◌, ◌-◌, ◌^◌, ◌<◌, ◌≤
 ghost use Rattle.std.specs.List.{list_any};
 ghost use Rattle.ff_headers.specs.Fields.{LiesWithin};
 ghost use Rattle.ff_headers.specs.Kinds.{kind_size};
-ghost use Rattle.ntuple_compile.specs.SpecFits.{kinds_of};
-ghost use Rattle.ntuple_compile.specs.Selected.{IsPartOf, flags_for, is_part_of_field, key_field, mask_field};
+ghost use Rattle.ntuple_compile.specs.SpecFits.{kinds_of, named_fields};
+ghost use Rattle.ntuple_compile.specs.Selected.{AreGivenIn, IsPartOf, flags_for, given_for, is_part_of_field};
+ghost use Rattle.ntuple_compile.specs.Selected.{key_field, key_part, mask_field, mask_for};
 
+use crate::header::{HeaderBytes, put_field};
+use arrayvec::ArrayVec;
 use ff_headers::{Field, Kind, fields_of};
-use ntuple_text::{Flow, Part};
+use ntuple_text::{Flow, Part, Spec};
 
 const ETHER: [Kind; 1] = [Kind::Eth];
 
@@ -40,6 +43,56 @@ pub(crate) fn kinds_of(flow: Flow) -> &'static [Kind]
         Flow::Tcp6 => &TCP6,
         Flow::Udp6 => &UDP6,
     }
+}
+
+/// What a spec gives for the field of a header that begins at this bit.
+fn given_for(spec: &Spec, kind: Kind, field: &Field) -> Option<Part>
+    ensures { result ≡ given_for (named_fields spec.now kind) field.now }
+{
+    match (kind, field.first) {
+        (Kind::Eth, 0) => spec.dst,
+        (Kind::Eth, 48) => spec.src,
+        (Kind::Eth, 96) => spec.proto,
+        (Kind::Ipv4, 8) => spec.class,
+        (Kind::Ipv4, 72) => spec.proto,
+        (Kind::Ipv4, 96) => spec.src,
+        (Kind::Ipv4, 128) => spec.dst,
+        (Kind::Ipv6, 4) => spec.class,
+        (Kind::Ipv6, 48) => spec.proto,
+        (Kind::Ipv6, 64) => spec.src,
+        (Kind::Ipv6, 192) => spec.dst,
+        (Kind::Tcp | Kind::Udp, 0) => spec.src_port,
+        (Kind::Tcp | Kind::Udp, 16) => spec.dst_port,
+        _ => None,
+    }
+}
+
+/// The mask for a header.
+pub(crate) fn mask_for(spec: &Spec, kind: Kind) -> HeaderBytes
+    requires { AreGivenIn spec.now kind }
+    ensures { result.items ≡ mask_for spec.now kind }
+{
+    let mut bytes = ArrayVec::new();
+    let mut rest = 0;
+    for field in fields_of(kind) {
+        let value = mask_field(field.bits, given_for(spec, kind, field));
+        rest = put_field(&mut bytes, rest, field, value);
+    }
+    bytes
+}
+
+/// The key's part for a header.
+pub(crate) fn key_part(spec: &Spec, kind: Kind) -> HeaderBytes
+    requires { AreGivenIn spec.now kind }
+    ensures { result.items ≡ key_part spec.now kind }
+{
+    let mut bytes = ArrayVec::new();
+    let mut rest = 0;
+    for field in fields_of(kind) {
+        let value = key_field(field.bits, given_for(spec, kind, field));
+        rest = put_field(&mut bytes, rest, field, value);
+    }
+    bytes
 }
 
 /// A mask's field: a one for each bit that is compared.
