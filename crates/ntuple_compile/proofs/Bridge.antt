@@ -146,7 +146,7 @@ fits_where_agreed spec kind headers are parts = by_header (header_at headers kin
 -- ---- a list of headers
 
 -- so for each kind
-abbrev EachGiven : Spec → List Kind → Type 0
+abbrev pub EachGiven : Spec → List Kind → Type 0
 EachGiven spec [] = ⊤
 EachGiven spec (kind ∷ kinds) = EachIsPart (given spec kind) (fields_of kind) × EachGiven spec kinds
 
@@ -185,7 +185,7 @@ tcp_parts spec source destination = (source, (destination, (tt, (tt, (tt, (tt, (
 udp_parts : (spec : Spec) → IsPartOf 16 spec.src_port → IsPartOf 16 spec.dst_port → EachIsPart (given spec Udp) (fields_of Udp)
 udp_parts spec source destination = (source, (destination, (tt, (tt, tt))))
 
-flow_parts : (spec : Spec) (flow : Flow) → AreSpelled flow spec.src spec.dst spec.proto spec.class spec.src_port spec.dst_port → EachGiven spec (kinds_of flow)
+pub flow_parts : (spec : Spec) (flow : Flow) → AreSpelled flow spec.src spec.dst spec.proto spec.class spec.src_port spec.dst_port → EachGiven spec (kinds_of flow)
 flow_parts spec Ether h =
     ((in_form Mac 48 spec.dst refl h.dst, (in_form Mac 48 spec.src refl h.src, (in_form Bits16 16 spec.proto refl h.proto, tt))), tt)
 flow_parts spec Ip4 h = (ipv4_parts spec (in_form Bits8 8 spec.class refl h.class) (in_form Bits8 8 spec.proto refl h.proto) (in_form form.Ipv4 32 spec.src refl h.src) (in_form form.Ipv4 32 spec.dst refl h.dst), tt)

@@ -5,4 +5,5 @@ pub mod MaskedBytes
 pub mod MaskedFields
 pub mod Bridge
 pub mod WrittenLemmas
+pub mod KeyLemmas
 mod CompileExamples

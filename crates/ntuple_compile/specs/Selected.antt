@@ -87,6 +87,11 @@ selector_of_mask kind mask = selector_with kind (flags_for kind mask) mask
 
 -- ---- a spec
 
+-- what a spec gives for the headers that its flow names has no more than the fields' bits: so it is of every spec that
+-- a line can spell
+abbrev pub AreGiven : Spec → Type 0
+AreGiven spec = All (AreGivenIn spec) (kinds_of spec.flow)
+
 -- the selectors of a spec: one for each header that its flow names
 unfoldable pub selectors_of : Spec → List SelectorParts
 selectors_of spec = map (λ kind. selector_of_mask kind (mask_for spec kind)) (kinds_of spec.flow)

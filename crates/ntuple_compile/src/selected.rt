@@ -5,12 +5,12 @@ ghost use Rattle.std.specs.List.{list_any};
 ghost use Rattle.ff_headers.specs.Fields.{LiesWithin};
 ghost use Rattle.ff_headers.specs.Kinds.{kind_size};
 ghost use Rattle.ntuple_compile.specs.SpecFits.{kinds_of, named_fields};
-ghost use Rattle.ntuple_compile.specs.Selected.{AreGivenIn, IsPartOf, flags_for, given_for, is_part_of_field};
-ghost use Rattle.ntuple_compile.specs.Selected.{key_field, key_part, mask_field, mask_for};
+ghost use Rattle.ntuple_compile.specs.Selected.{AreGiven, AreGivenIn, IsPartOf, flags_for, given_for, is_part_of_field};
+ghost use Rattle.ntuple_compile.specs.Selected.{key_field, key_for, key_part, mask_field, mask_for, selector_of_mask, selectors_of};
 
 use crate::header::{HeaderBytes, put_field};
 use arrayvec::ArrayVec;
-use ff_headers::{Field, Kind, fields_of};
+use ff_headers::{Field, Key, Kind, Selector, fields_of};
 use ntuple_text::{Flow, Part, Spec};
 
 const ETHER: [Kind; 1] = [Kind::Eth];
@@ -45,6 +45,40 @@ pub(crate) fn kinds_of(flow: Flow) -> &'static [Kind]
     }
 }
 
+/// The selectors of a spec.
+pub(crate) fn selectors_of(spec: &Spec) -> ArrayVec<Selector, 5>
+    requires { AreGiven spec.now }
+    ensures { result.items ≡ selectors_of spec.now }
+{
+    let mut list = ArrayVec::new();
+    for kind in kinds_of(spec.flow) {
+        let mask = mask_for(spec, *kind);
+        list.push(selector_of_mask(*kind, mask.as_slice()));
+    }
+    list
+}
+
+/// The key of a spec, for its selectors.
+pub(crate) fn key_for(spec: &Spec) -> Key
+    requires { AreGiven spec.now }
+    ensures { result.items ≡ key_for spec.now }
+{
+    let mut key = ArrayVec::new();
+    for kind in kinds_of(spec.flow) {
+        let part = key_part(spec, *kind);
+        key.try_extend_from_slice(part.as_slice()).unwrap();
+    }
+    key
+}
+
+/// The selector of a header with this mask.
+fn selector_of_mask(kind: Kind, mask: &[u8]) -> Selector
+    requires { length mask.now ≡ kind_size kind }
+    ensures { result ≡ selector_of_mask kind mask.now }
+{
+    Selector::new(kind, flags_for(kind, mask), mask)
+}
+
 /// What a spec gives for the field of a header that begins at this bit.
 fn given_for(spec: &Spec, kind: Kind, field: &Field) -> Option<Part>
     ensures { result ≡ given_for (named_fields spec.now kind) field.now }
@@ -70,7 +104,8 @@ fn given_for(spec: &Spec, kind: Kind, field: &Field) -> Option<Part>
 /// The mask for a header.
 pub(crate) fn mask_for(spec: &Spec, kind: Kind) -> HeaderBytes
     requires { AreGivenIn spec.now kind }
-    ensures { result.items ≡ mask_for spec.now kind }
+    ensures value { result.items ≡ mask_for spec.now kind }
+    ensures whole { length result.items ≡ kind_size kind }
 {
     let mut bytes = ArrayVec::new();
     let mut rest = 0;
@@ -84,7 +119,8 @@ pub(crate) fn mask_for(spec: &Spec, kind: Kind) -> HeaderBytes
 /// The key's part for a header.
 pub(crate) fn key_part(spec: &Spec, kind: Kind) -> HeaderBytes
     requires { AreGivenIn spec.now kind }
-    ensures { result.items ≡ key_part spec.now kind }
+    ensures value { result.items ≡ key_part spec.now kind }
+    ensures whole { length result.items ≡ kind_size kind }
 {
     let mut bytes = ArrayVec::new();
     let mut rest = 0;

@@ -1,9 +1,9 @@
-use Rattle.std.proofs.Common.{◌≤◌, length, arith}
+use Rattle.std.proofs.Common.{ap, ◌∙◌, ◌≤◌, length, arith}
 use Rattle.ff_headers.specs.Fields.{fields_of}
 use Rattle.ff_headers.specs.declared.field.Field.{Field}
 use Rattle.ntuple_compile.specs.Selected.{given_for, mask_field, mask_for}
 use Rattle.ntuple_compile.specs.SpecFits.{named_fields}
-use Rattle.ntuple_compile.proofs.Bridge.{each_is_part, masks_fit}
+use Rattle.ntuple_compile.proofs.Bridge.{each_is_part, length-mask, masks_fit}
 use Rattle.ntuple_compile.proofs.WrittenLemmas.{all_written, field_begins, next_written, none_written}
 use Rattle.ntuple_compile.proofs.selected.mask_for.Goals as goal
 
@@ -41,4 +41,5 @@ returns c =
     let fit = masks_fit given (fields_of c.args.kind) (each_is_part given (fields_of c.args.kind) c.requires) in
     let ended = rw c.fields_of-field-items.ensures.value at c.loop-field-test.false in
     let past : length (fields_of c.args.kind) ≤ c.loop-field.field-index = omega (arith, ended) in
-    all_written c.args.kind (λ f. mask_field f.bits (given f)) c.loop-field.field-index c.loop-field.bytes.items c.loop-field.rest fit past c.loop-field.invariant
+    let is = all_written c.args.kind (λ f. mask_field f.bits (given f)) c.loop-field.field-index c.loop-field.bytes.items c.loop-field.rest fit past c.loop-field.invariant in
+    record { value = is; whole = ap length is ∙ length-mask c.args.spec.now c.args.kind }
