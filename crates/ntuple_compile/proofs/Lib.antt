@@ -6,4 +6,5 @@ pub mod MaskedFields
 pub mod Bridge
 pub mod WrittenLemmas
 pub mod KeyLemmas
+pub mod RuleOrder
 mod CompileExamples
