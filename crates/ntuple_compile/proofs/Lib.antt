@@ -7,4 +7,5 @@ pub mod Bridge
 pub mod WrittenLemmas
 pub mod KeyLemmas
 pub mod RuleOrder
+pub mod RuleActions
 mod CompileExamples

@@ -78,7 +78,7 @@ later_place i j size some less =
       strict rises apart = ⊎_elim (λ same. absurd (apart same)) (λ order. ⊎_elim (λ under. absurd (omega (arith, under, rises))) (λ over. over) order) (cases_order (j / size) (i / size))
 
 -- the rules of specs, the first of which has this number
-abbrev rules_from : ℕ → List Shape → ℕ → List Spec → List RuleEntry
+abbrev pub rules_from : ℕ → List Shape → ℕ → List Spec → List RuleEntry
 rules_from size shapes from specs = map (λ e. (e.0, spec_rule size shapes e.0 e.1)) (enumerate_from from specs)
 
 module _ (objects : FlowObjects) (count size : ℕ) (shapes : List Shape) (groups : objects.groups ≡ map (λ g. (g, g)) (range_with_len 0 count)) (some : 0 < size) where
