@@ -8,4 +8,5 @@ pub mod WrittenLemmas
 pub mod KeyLemmas
 pub mod RuleOrder
 pub mod RuleActions
+pub mod RuleMatches
 mod CompileExamples
