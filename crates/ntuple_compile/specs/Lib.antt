@@ -1,0 +1,5 @@
+pub mod HeaderFields
+pub mod SpecFits
+pub mod Selected
+pub mod Written
+pub mod Compiled

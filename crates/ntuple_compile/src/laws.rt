@@ -1,0 +1,36 @@
+//! Laws of the definitions. Each call does nothing: its contract is the law.
+
+ghost use Rattle.std.specs.Prelude.{◌≡◌, ◌↔◌, ◌⊎◌, ℕ, List, Some, IsTrue};
+ghost use Rattle.vnff_base.specs.Bytes.{IsBytes};
+ghost use Rattle.ff_headers.specs.Frames.{HeaderBytes, headers_of};
+ghost use Rattle.ff_headers.specs.Matching.{matches};
+ghost use Rattle.ff_headers.specs.declared.rule.Action.TheVariants.{Default};
+ghost use Rattle.ntuple_text.specs.Spellable.{IsSpellable};
+ghost use Rattle.ntuple_text.specs.TableMaps.{TableMap};
+ghost use Rattle.ntuple_text.specs.declared.spec.Part.{Part};
+ghost use Rattle.ntuple_text.specs.declared.spec.Spec.{Spec};
+ghost use Rattle.ntuple_compile.specs.SpecFits.{AgreesWith, FitsFirst, NoneFits, action_for, agrees, spec_fits, table_action};
+ghost use Rattle.ntuple_compile.specs.Selected.{key_for, selectors_of};
+
+/// A given field agrees with a number exactly where both have the same bit at each place that isn't skipped.
+pub fn fields_agree_bit_by_bit()
+    ensures { (part : Part) (number : ℕ) → IsTrue (agrees (Some part) number) ↔ AgreesWith part number }
+{}
+
+/// Of the specs that fit a frame the one at the least location acts; a frame that no spec fits gets the default. One of
+/// these holds of each frame.
+pub fn the_least_location_acts()
+    ensures first { (table : TableMap) (headers : HeaderBytes) (loc : ℕ) (spec : Spec)
+        → FitsFirst table headers loc spec → table_action table headers ≡ action_for spec.action }
+    ensures none { (table : TableMap) (headers : HeaderBytes)
+        → NoneFits table headers → table_action table headers ≡ Default }
+    ensures one_holds { (table : TableMap) (headers : HeaderBytes)
+        → NoneFits table headers ⊎ ((loc : ℕ) × (spec : Spec) × FitsFirst table headers loc spec) }
+{}
+
+/// A frame matches the selectors of a spec, with its key, exactly where it fits the spec: wherever a line can spell the
+/// spec.
+pub fn selectors_match_where_a_spec_fits()
+    ensures { (spec : Spec) (pairs : ℕ) (frame : List ℕ) → IsSpellable pairs spec → IsBytes frame
+        → matches (selectors_of spec) (key_for spec) (headers_of frame) ≡ spec_fits spec (headers_of frame) }
+{}
