@@ -4,12 +4,20 @@
 #![tactic(auto)]
 
 #[cfg(test)]
+mod capabilities;
+#[cfg(test)]
 mod commands;
 #[cfg(test)]
 mod device;
+#[cfg(test)]
+mod headers;
 #[cfg(test)]
 mod maps;
 #[cfg(test)]
 mod numbers;
 #[cfg(test)]
+mod run;
+#[cfg(test)]
 mod store;
+#[cfg(test)]
+mod tables;
