@@ -6,7 +6,10 @@ pub mod MaskedFields
 pub mod Bridge
 pub mod WrittenLemmas
 pub mod KeyLemmas
+pub mod EachElement
 pub mod RuleOrder
 pub mod RuleActions
 pub mod RuleMatches
+pub mod ShapeNumbers
+pub mod ActionLemmas
 mod CompileExamples

@@ -1,7 +1,7 @@
 -- The rules that stand for specs are in the specs' order, so the first of them that matches decides.
 use Rattle.std.proofs.Common.{◌≡◌, ℕ, zero, suc, ◌+◌, ◌*◌, ◌/◌, ◌%◌, ◌<◌, ◌≤◌, Bool, true, false, cond, List, [], ◌∷◌, map, filter, length, Option, Some, refl, sym, ap, ◌∙◌, arith, ◌⊎◌, inl, inr, ⊎_elim}
 use Rattle.std.specs.Prelude.{⊤, find, unwrap_or}
-use Rattle.std.specs.List.{best_of, enumerate_from, range_with_len}
+use Rattle.std.specs.List.{AllByRecursion, best_of, enumerate_from, range_with_len}
 use Rattle.std.specs.Ordering.{is_lt}
 use Rattle.std.specs.Int.{div_ceil}
 use Rattle.std.proofs.Math.Nat.{div-add-mod, div-mul-le_self, le-div_iff_mul-le}
@@ -15,29 +15,18 @@ use Rattle.ff_headers.specs.declared.limits.Limits.{Limits}
 use Rattle.ff_headers.proofs.EntryLemmas.{object_under-cons}
 use Rattle.ntuple_text.specs.declared.spec.Spec.{Spec}
 use Rattle.ntuple_compile.specs.Compiled.{Shape, objects_of, rules_per_group, shapes_of, spec_rule}
+use Rattle.ntuple_compile.proofs.EachElement.{each_kept}
 
 -- ---- the first of rules in order
 
--- each element
-abbrev Each : {X : Type 0} → (X → Type 0) → List X → Type 0
-Each P [] = ⊤
-Each P (x ∷ xs) = P x × Each P xs
-
-each_kept : {X : Type 0} (P : X → Type 0) (p : X → Bool) (xs : List X) → Each P xs → Each P (filter p xs)
-each_kept P p [] h = tt
-each_kept P p (x ∷ xs) h = by_test (p x) (each_kept P p xs h.1) where
-  by_test : (b : Bool) → Each P (filter p xs) → Each P (cond b (x ∷ filter p xs) (filter p xs))
-  by_test true rest = (h.0, rest)
-  by_test false rest = rest
-
-head_is_best : {X : Type 0} (beats : X → X → Bool) (x : X) (xs : List X) → Each (λ y. beats y x ≡ false) xs → best_of beats x xs ≡ x
+head_is_best : {X : Type 0} (beats : X → X → Bool) (x : X) (xs : List X) → AllByRecursion (λ y. beats y x ≡ false) xs → best_of beats x xs ≡ x
 head_is_best beats x [] h = refl
 head_is_best beats x (y ∷ ys) h = rw h.0 (head_is_best beats x ys h.1)
 
 -- no rule comes before one that stands in front of it
 abbrev pub InOrder : FlowObjects → List RuleEntry → Type 0
 InOrder objects [] = ⊤
-InOrder objects (entry ∷ entries) = Each (λ later. is_before objects later entry ≡ false) entries × InOrder objects entries
+InOrder objects (entry ∷ entries) = AllByRecursion (λ later. is_before objects later entry ≡ false) entries × InOrder objects entries
 
 least_is_found : (objects : FlowObjects) (p : RuleEntry → Bool) (entries : List RuleEntry) → InOrder objects entries → least_rule objects (filter p entries) ≡ find p entries
 least_is_found objects p [] h = refl
@@ -87,7 +76,7 @@ module _ (objects : FlowObjects) (count size : ℕ) (shapes : List Shape) (group
       let found : object_under objects.groups (i / size) ≡ Some (i / size) = rw groups (group_is_held 0 count (i / size) (omega arith) (omega (arith, held))) in
       ap (λ (o : Option ℕ). (unwrap_or o 0, i % size, i)) found
 
-  none_before : (low : ℕ) (first : Spec) → low / size < count → (from : ℕ) (specs : List Spec) → low < from → ((k : ℕ) → k < from + length specs → k / size < count) → Each (λ later. is_before objects later (low, spec_rule size shapes low first) ≡ false) (rules_from size shapes from specs)
+  none_before : (low : ℕ) (first : Spec) → low / size < count → (from : ℕ) (specs : List Spec) → low < from → ((k : ℕ) → k < from + length specs → k / size < count) → AllByRecursion (λ later. is_before objects later (low, spec_rule size shapes low first) ≡ false) (rules_from size shapes from specs)
   none_before low first held from [] less fits = tt
   none_before low first held from (spec ∷ specs) less fits =
       let late = place_is from spec (fits from (omega arith)) in
@@ -103,7 +92,7 @@ module _ (objects : FlowObjects) (count size : ℕ) (shapes : List Shape) (group
       (none_before from spec (fits from (omega arith)) (from + 1) specs (omega arith) (λ k inside. fits k (omega (arith, inside))), rules_in_order (from + 1) specs (λ k inside. fits k (omega (arith, inside))))
 
 -- every rule has a group
-group_of_rule : (n size k : ℕ) → 0 < size → k < n → k / size < div_ceil n size
+pub group_of_rule : (n size k : ℕ) → 0 < size → k < n → k / size < div_ceil n size
 group_of_rule n size k some inside =
     let most = (div_ceil_times n size some).0 in
     ⊎_elim (λ less. less) (λ past. absurd (omega (arith, inside, most, (le-div_iff_mul-le {k = size} {x = div_ceil n size} {y = k} some).0 past))) (cases_lt (k / size) (div_ceil n size))
