@@ -12,4 +12,5 @@ pub mod RuleActions
 pub mod RuleMatches
 pub mod ShapeNumbers
 pub mod ActionLemmas
+pub mod NoFaults
 mod CompileExamples
