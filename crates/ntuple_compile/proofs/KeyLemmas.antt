@@ -1,16 +1,19 @@
 -- The sizes of a spec's key, and that a spec which lines can spell gives no more than its fields' bits.
-use Rattle.std.proofs.Common.{◌≡◌, ℕ, zero, suc, ◌+◌, ◌<◌, ◌≤◌, List, [], ◌∷◌, length, get_or, take, refl, arith}
+use Rattle.std.proofs.Common.{◌≡◌, ℕ, zero, suc, ◌+◌, ◌<◌, ◌≤◌, List, [], ◌∷◌, map, length, get_or, take, refl, sym, ap, ◌∙◌, arith}
 use Rattle.std.specs.Prelude.{flat_map, All}
 use Rattle.std.proofs.lemmas.List.{length-append}
+use Rattle.std.proofs.lemmas.List.Sums.{sum_by-cons}
 use Rattle.ff_headers.specs.Fields.{fields_of}
 use Rattle.ff_headers.specs.Kinds.{kind_size}
+use Rattle.ff_headers.specs.Matching.{key_size}
+use Rattle.ff_headers.specs.SelectorParts.{SelectorParts}
 use Rattle.ff_headers.specs.declared.kind.Kind.{Kind}
 use Rattle.ntuple_text.specs.Spellable.{IsSpellable}
 use Rattle.ntuple_text.specs.declared.spec.Flow.{Flow}
 use Rattle.ntuple_text.specs.declared.spec.Flow.TheVariants.{Ether, Ip4, Tcp4, Udp4, Ip6, Tcp6, Udp6}
 use Rattle.ntuple_text.specs.declared.spec.Spec.{Spec}
 use Rattle.ntuple_compile.specs.SpecFits.{kinds_of, named_fields}
-use Rattle.ntuple_compile.specs.Selected.{AreGiven, AreGivenIn, given_for, key_part}
+use Rattle.ntuple_compile.specs.Selected.{AreGiven, AreGivenIn, given_for, key_for, key_part, mask_for, selector_of_mask, selectors_of}
 use Rattle.ntuple_compile.proofs.Bridge.{EachGiven, all_are_parts, flow_parts, length-key_part}
 
 -- ---- what is given
@@ -34,6 +37,16 @@ pub length-keys : (spec : Spec) (kinds : List Kind) → length (flat_map (key_pa
 length-keys spec [] = refl
 length-keys spec (kind ∷ kinds) =
     omega (arith, length-append (key_part spec kind) (flat_map (key_part spec) kinds), length-key_part spec kind, length-keys spec kinds)
+
+key_size_of : (spec : Spec) (kinds : List Kind) → key_size (map (λ kind. selector_of_mask kind (mask_for spec kind)) kinds) ≡ sizes kinds
+key_size_of spec [] = refl
+key_size_of spec (kind ∷ kinds) =
+    sum_by-cons (λ (s : SelectorParts). kind_size s.kind) (selector_of_mask kind (mask_for spec kind)) (map (λ k. selector_of_mask k (mask_for spec k)) kinds) ∙ ap (λ n. kind_size kind + n) (key_size_of spec kinds)
+
+-- a key has the size of the selectors that it is for
+pub key_sized : (spec : Spec) → length (key_for spec) ≡ key_size (selectors_of spec)
+unfolding key_for selectors_of
+key_sized spec = length-keys spec (kinds_of spec.flow) ∙ sym (key_size_of spec (kinds_of spec.flow))
 
 front_sizes : (kinds : List Kind) (i : ℕ) (d : Kind) → i < length kinds → sizes (take i kinds) + kind_size (get_or kinds i d) ≤ sizes kinds
 front_sizes [] i d inside = absurd (omega (arith, inside))

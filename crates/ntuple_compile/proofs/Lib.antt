@@ -13,4 +13,10 @@ pub mod RuleMatches
 pub mod ShapeNumbers
 pub mod ActionLemmas
 pub mod NoFaults
+pub mod LastEntries
+pub mod Reaching
+pub mod PutGroups
+pub mod PutClassifiers
+pub mod PutRules
+pub mod AcceptedCommands
 mod CompileExamples

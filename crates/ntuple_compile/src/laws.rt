@@ -1,16 +1,20 @@
 //! Laws of the definitions. Each call does nothing: its contract is the law.
 
-ghost use Rattle.std.specs.Prelude.{◌≡◌, ◌↔◌, ◌⊎◌, ℕ, List, Some, IsTrue};
+ghost use Rattle.std.specs.Prelude.{◌≡◌, ◌↔◌, ◌⊎◌, ℕ, List, Some, Ok, IsTrue};
 ghost use Rattle.vnff_base.specs.Bytes.{IsBytes};
 ghost use Rattle.ff_headers.specs.Frames.{HeaderBytes, headers_of};
 ghost use Rattle.ff_headers.specs.Matching.{matches};
 ghost use Rattle.ff_headers.specs.declared.rule.Action.TheVariants.{Default};
-ghost use Rattle.ntuple_text.specs.Spellable.{IsSpellable};
+ghost use Rattle.admin_wire.specs.declared.command.Command.{Command};
+ghost use Rattle.cap_table.specs.Caps.{CapsParts};
+ghost use Rattle.ntuple_text.specs.Spellable.{IsSpellable, IsTable};
 ghost use Rattle.ntuple_text.specs.TableMaps.{TableMap};
 ghost use Rattle.ntuple_text.specs.declared.spec.Part.{Part};
 ghost use Rattle.ntuple_text.specs.declared.spec.Spec.{Spec};
 ghost use Rattle.ntuple_compile.specs.SpecFits.{AgreesWith, FitsFirst, NoneFits, action_for, agrees, spec_fits, table_action};
 ghost use Rattle.ntuple_compile.specs.Selected.{key_for, selectors_of};
+ghost use Rattle.ntuple_compile.specs.Compiled.{compiled};
+ghost use Rattle.ntuple_compile.specs.Acceptance.{ActAs, AreAccepted};
 
 /// A given field agrees with a number exactly where both have the same bit at each place that isn't skipped.
 pub fn fields_agree_bit_by_bit()
@@ -33,4 +37,17 @@ pub fn the_least_location_acts()
 pub fn selectors_match_where_a_spec_fits()
     ensures { (spec : Spec) (pairs : ℕ) (frame : List ℕ) → IsSpellable pairs spec → IsBytes frame
         → matches (selectors_of spec) (key_for spec) (headers_of frame) ≡ spec_fits spec (headers_of frame) }
+{}
+
+/// A device that starts ready answers each command of a table that is compiled for it with OK, whatever bytes lay the
+/// commands out.
+pub fn compiled_commands_are_accepted()
+    ensures { (table : TableMap) (caps : CapsParts) (commands : List Command) → IsTable table.pairs table.slots
+        → table.pairs ≡ caps.pairs → compiled table caps ≡ Ok commands → AreAccepted caps commands }
+{}
+
+/// After these commands the device does with every frame what the table does.
+pub fn compiled_commands_act_as_the_table()
+    ensures { (table : TableMap) (caps : CapsParts) (commands : List Command) → IsTable table.pairs table.slots
+        → table.pairs ≡ caps.pairs → compiled table caps ≡ Ok commands → ActAs caps commands table }
 {}

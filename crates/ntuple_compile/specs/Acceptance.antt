@@ -1,0 +1,50 @@
+-- When the commands of a table are accepted, and when the objects that they leave act as the table does: on a device that
+-- starts ready, whatever bytes lay the commands out. This project's own.
+use Rattle.std.specs.Prelude.{⊤, ℕ, ◌≡◌, ◌≤◌, List, [], ◌∷◌, replicate}
+use Rattle.std.specs.List.{AllZip}
+use Rattle.vnff_base.specs.Bytes.{IsBytes}
+use Rattle.ff_headers.specs.Frames.{headers_of}
+use Rattle.ff_headers.specs.Places.{action_of}
+use Rattle.admin_wire.specs.declared.command.Command.{Command}
+use Rattle.admin_wire.specs.Codes.{reply_head_size}
+use Rattle.admin_wire.specs.Wire.{Reads}
+use Rattle.cap_table.specs.Caps.{CapsParts}
+use Rattle.cap_table.specs.States.{DeviceState, start_state}
+use Rattle.cap_table.specs.Steps.{next_state, reply_of, state_after}
+use Rattle.cap_table.specs.declared.start.Start.TheVariants.{Ready}
+use Rattle.ntuple_text.specs.TableMaps.{TableMap}
+use Rattle.ntuple_compile.specs.SpecFits.{table_action}
+
+-- the bytes of a command, and the room for its reply
+abbrev pub SentCommand : Type 0
+SentCommand = List ℕ × ℕ
+
+-- the bytes lay out the command, and the room holds a reply
+abbrev pub IsSent : Command → SentCommand → Type 0
+IsSent command sent = Reads sent.0 command × (reply_head_size ≤ sent.1)
+
+-- so of each command, in order
+abbrev pub AreSent : List Command → List SentCommand → Type 0
+AreSent commands sent = AllZip IsSent commands sent
+
+-- the reply of a command that is obeyed and has no result: status 0 and qualifier 0
+abbrev pub ok_reply : List ℕ
+ok_reply = replicate 8 0
+
+-- each is answered so, in the state that those before it leave
+abbrev pub AreObeyed : DeviceState → List SentCommand → Type 0
+AreObeyed state [] = ⊤
+AreObeyed state (sent ∷ later) =
+    (reply_of state sent.0 sent.1 ≡ ok_reply) × AreObeyed (next_state state sent.0 sent.1) later
+
+-- a device with these capabilities, started ready, obeys each of the commands
+abbrev pub AreAccepted : CapsParts → List Command → Type 0
+AreAccepted caps commands =
+    (sent : List SentCommand) → AreSent commands sent → AreObeyed (start_state caps Ready) sent
+
+-- after the commands, what happens to each frame is what the table says
+abbrev pub ActAs : CapsParts → List Command → TableMap → Type 0
+ActAs caps commands table =
+    (sent : List SentCommand) (frame : List ℕ) → AreSent commands sent → IsBytes frame
+    → action_of (state_after (start_state caps Ready) sent).objects (headers_of frame)
+    ≡ table_action table (headers_of frame)
