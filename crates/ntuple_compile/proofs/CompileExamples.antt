@@ -1,13 +1,27 @@
 -- The definitions at worked examples.
-use Rattle.std.proofs.Common.{◌≡◌, ℕ, true, false, List, [], ◌∷◌, ◌++◌, map, length, replicate, Some, None, Ok, refl}
+use Rattle.std.proofs.Common.{◌≡◌, ℕ, true, false, List, [], ◌∷◌, ◌++◌, map, length, replicate, Some, None, Ok, refl, arith}
 use Rattle.std.specs.List.{range_with_len}
+use Rattle.ff_headers.specs.Changes.{is_sound, with_change_made, step}
 use Rattle.ff_headers.specs.Fields.{is_allowed}
 use Rattle.ff_headers.specs.Frames.{headers_of, has_ipv4, carries, eth_field, ip_field, ip_end, names_ip}
+use Rattle.ff_headers.specs.Matching.{fits, matches}
+use Rattle.ff_headers.specs.Places.{action_of, first_rule, rule_matches}
 use Rattle.ff_headers.specs.SelectorParts.{SelectorParts, selector_with}
+use Rattle.ff_headers.specs.Shapes.{shape_fault}
 use Rattle.ff_headers.specs.declared.kind.Kind.TheVariants.{Eth, Ipv4, Ipv6, Tcp}
 use Rattle.ff_headers.specs.declared.rule.Action.TheVariants as action
+use Rattle.byte_numbers.specs.Numbers.{le16_at, le32_at, le64_at}
+use Rattle.admin_wire.specs.Headers.{header_of, opcode_of}
 use Rattle.admin_wire.specs.Layouts.{command_bytes}
+use Rattle.admin_wire.specs.Lists.{whole_entry, entries_of, selector_of, raw_list, list_of}
+use Rattle.admin_wire.specs.Objects.{head_of, group_of, classifier_of, raw_key, rule_of, object_of, head_and_object}
+use Rattle.admin_wire.specs.Replies.{whole_reply}
+use Rattle.admin_wire.specs.Wire.{data_of, command_of}
+use Rattle.cap_table.specs.Answers.{answer_of, verdict_of}
 use Rattle.cap_table.specs.Caps.{CapsParts, all_selectors}
+use Rattle.cap_table.specs.States.{start_state}
+use Rattle.cap_table.specs.Steps.{state_after}
+use Rattle.cap_table.specs.declared.start.Start.TheVariants.{Ready}
 use Rattle.ntuple_text.specs.declared.spec.Flow.{Flow}
 use Rattle.ntuple_text.specs.declared.spec.Flow.TheVariants.{Ether, Ip4, Tcp4, Ip6}
 use Rattle.ntuple_text.specs.declared.spec.Spec.{Spec}
@@ -15,6 +29,7 @@ use Rattle.ntuple_text.specs.declared.spec.TableDo.{TableDo}
 use Rattle.ntuple_text.specs.declared.spec.TableDo.TheVariants.{Drop, Queue}
 use Rattle.ntuple_compile.specs.SpecFits.{spec_fits, specs_action}
 use Rattle.ntuple_compile.specs.Selected.{mask_for, key_part, selectors_of, key_for}
+use Rattle.ntuple_compile.specs.Acceptance.{AreObeyed, AreSent, SentCommand}
 use Rattle.ntuple_compile.specs.Compiled.{objects_of, creates_of, compile_fault, compiled_specs}
 use Rattle.ntuple_compile.specs.declared.error.CompileErr.TheVariants.{Unsupported, Rules, Classifiers, Levels, PerGroup}
 
@@ -178,3 +193,26 @@ no_selector_of_the_kind = refl
 nothing_for_an_empty_table : compiled_specs (device 0 0 0 0) [] ≡ Ok []
 unfolding compiled_specs compile_fault creates_of objects_of
 nothing_for_an_empty_table = refl
+
+-- ---- runs
+
+-- those three commands as they are sent, each with room for a reply
+abbrev arp_sent : List SentCommand
+arp_sent = map (λ c. (command_bytes c, 8)) (creates_of (objects_of (device 2 4 8 8).limits (arp ∷ [])))
+
+arp_is_sent : AreSent (creates_of (objects_of (device 2 4 8 8).limits (arp ∷ []))) arp_sent
+unfolding arp creates_of objects_of selectors_of mask_for key_for key_part le16_at le32_at le64_at shape_fault is_allowed is_sound with_change_made step whole_entry entries_of selector_of raw_list list_of head_of group_of classifier_of raw_key rule_of object_of head_and_object header_of opcode_of data_of command_of answer_of verdict_of whole_reply
+arp_is_sent = ((refl, omega arith), ((refl, omega arith), ((refl, omega arith), tt)))
+
+arp_is_obeyed : AreObeyed (start_state (device 2 4 8 8) Ready) arp_sent
+unfolding arp creates_of objects_of selectors_of mask_for key_for key_part le16_at le32_at le64_at shape_fault is_allowed is_sound with_change_made step whole_entry entries_of selector_of raw_list list_of head_of group_of classifier_of raw_key rule_of object_of head_and_object header_of opcode_of data_of command_of answer_of verdict_of whole_reply
+arp_is_obeyed = (refl, (refl, (refl, tt)))
+
+arp_acts : action_of (state_after (start_state (device 2 4 8 8) Ready) arp_sent).objects (headers_of arp_frame) ≡ action.Queue 3
+unfolding arp creates_of objects_of selectors_of mask_for key_for key_part le16_at le32_at le64_at shape_fault is_allowed is_sound with_change_made step whole_entry entries_of selector_of raw_list list_of head_of group_of classifier_of raw_key rule_of object_of head_and_object header_of opcode_of data_of command_of answer_of verdict_of whole_reply state_after action_of first_rule rule_matches matches fits headers_of has_ipv4 carries eth_field ip_field ip_end names_ip
+arp_acts = refl
+
+-- a device without room for a classifier doesn't obey the second
+too_many_are_refused : AreObeyed (start_state (device 2 0 8 8) Ready) arp_sent → ⊥
+unfolding arp creates_of objects_of selectors_of mask_for key_for key_part le16_at le32_at le64_at shape_fault is_allowed is_sound with_change_made step whole_entry entries_of selector_of raw_list list_of head_of group_of classifier_of raw_key rule_of object_of head_and_object header_of opcode_of data_of command_of answer_of verdict_of whole_reply
+too_many_are_refused obeyed = let second = obeyed.1.0 in absurd cc

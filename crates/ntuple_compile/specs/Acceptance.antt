@@ -1,5 +1,5 @@
--- When the commands of a table are accepted, and when the objects that they leave act as the table does: on a device that
--- starts ready, whatever bytes lay the commands out. This project's own.
+-- When commands are accepted by a device that started ready, and when what they leave acts as a table of specs does:
+-- whatever bytes lay the commands out. This project's own.
 use Rattle.std.specs.Prelude.{⊤, ℕ, ◌≡◌, ◌≤◌, List, [], ◌∷◌, replicate}
 use Rattle.std.specs.List.{AllZip}
 use Rattle.vnff_base.specs.Bytes.{IsBytes}
@@ -23,15 +23,15 @@ SentCommand = List ℕ × ℕ
 abbrev pub IsSent : Command → SentCommand → Type 0
 IsSent command sent = Reads sent.0 command × (reply_head_size ≤ sent.1)
 
--- so of each command, in order
+-- the bytes lay out these commands, one for one and in order
 abbrev pub AreSent : List Command → List SentCommand → Type 0
 AreSent commands sent = AllZip IsSent commands sent
 
 -- the reply of a command that is obeyed and has no result: status 0 and qualifier 0
 abbrev pub ok_reply : List ℕ
-ok_reply = replicate 8 0
+ok_reply = replicate reply_head_size 0
 
--- each is answered so, in the state that those before it leave
+-- each command is answered so, in the state that those before it leave
 abbrev pub AreObeyed : DeviceState → List SentCommand → Type 0
 AreObeyed state [] = ⊤
 AreObeyed state (sent ∷ later) =

@@ -8,9 +8,11 @@
 //! So far the crate has the selectors and the key of a spec (`selected`, which writes headers field by field in
 //! `header`), and the definitions of the rest, in specs/: `HeaderFields` and `SpecFits` (when a frame fits a spec, and
 //! what a table does with it: fields as numbers, with no selector, key or mask of bytes), `Selected` (the selectors and
-//! the key of a spec), `Written` (numbers that are written bit by bit) and `Compiled` (the objects and commands of a
-//! table, and the refusals). It promises in `laws` that a given field agrees with a frame's bit by bit, that the least
-//! location decides, and that a frame matches the selectors and the key of a spec exactly where it fits the spec.
+//! the key of a spec), `Written` (numbers that are written bit by bit), `Compiled` (the objects and commands of a
+//! table, and the refusals) and `Acceptance` (when a device obeys commands, and acts as a table). It promises in `laws`
+//! that a given field agrees with a frame's bit by bit, that the least location decides, that a frame matches the
+//! selectors and the key of a spec exactly where it fits the spec, that a device which starts ready answers each
+//! command of a compiled table with OK, and that after them it does with every frame what the table does.
 //!
 //! Worked examples stand in `proofs/CompileExamples.antt`.
 #![tactic(auto)]
