@@ -125,7 +125,7 @@ spellable_specs table pairs is same = subst (λ n. AllByRecursion (IsSpellable n
   each loc = without_place loc (get_or table.slots loc None) (is.spelled loc)
 
 -- a table that isn't refused has the commands that create its objects
-not_refused : (caps : CapsParts) (specs : List Spec) (commands : List Command) → compiled_specs caps specs ≡ Ok commands → (compile_fault caps specs ≡ None) × (creates_of (objects_of caps.limits specs) ≡ commands)
+pub not_refused : (caps : CapsParts) (specs : List Spec) (commands : List Command) → compiled_specs caps specs ≡ Ok commands → (compile_fault caps specs ≡ None) × (creates_of (objects_of caps.limits specs) ≡ commands)
 unfolding compiled_specs
 not_refused caps specs commands is = by_fault (compile_fault caps specs) refl is where
   by_fault : (found : Option CompileErr) → compile_fault caps specs ≡ found → option_map_or (λ fault. Err fault) found (Ok (creates_of (objects_of caps.limits specs))) ≡ Ok commands → (compile_fault caps specs ≡ None) × (creates_of (objects_of caps.limits specs) ≡ commands)

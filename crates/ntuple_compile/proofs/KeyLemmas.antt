@@ -66,3 +66,8 @@ flow_sizes Udp6 = omega arith
 pub key_room : (spec : Spec) (flow : Flow) (i : ℕ) (d : Kind) → i < length (kinds_of flow) → length (flat_map (key_part spec) (take i (kinds_of flow))) + kind_size (get_or (kinds_of flow) i d) ≤ 74
 key_room spec flow i d inside =
     omega (arith, length-keys spec (take i (kinds_of flow)), front_sizes (kinds_of flow) i d inside, flow_sizes flow)
+
+-- a key isn't longer than a rule's may be
+pub key_short : (spec : Spec) → length (key_for spec) ≤ 74
+unfolding key_for
+key_short spec = omega (arith, length-keys spec (kinds_of spec.flow), flow_sizes spec.flow)

@@ -19,4 +19,5 @@ pub mod PutGroups
 pub mod PutClassifiers
 pub mod PutRules
 pub mod AcceptedCommands
+pub mod WritableCommands
 mod CompileExamples

@@ -1,6 +1,6 @@
 //! Laws of the definitions. Each call does nothing: its contract is the law.
 
-ghost use Rattle.std.specs.Prelude.{◌≡◌, ◌↔◌, ◌⊎◌, ℕ, List, Some, Ok, IsTrue};
+ghost use Rattle.std.specs.Prelude.{◌≡◌, ◌↔◌, ◌⊎◌, ℕ, List, Some, Ok, IsTrue, All};
 ghost use Rattle.vnff_base.specs.Bytes.{IsBytes};
 ghost use Rattle.ff_headers.specs.Frames.{HeaderBytes, headers_of};
 ghost use Rattle.ff_headers.specs.Matching.{matches};
@@ -14,7 +14,7 @@ ghost use Rattle.ntuple_text.specs.declared.spec.Spec.{Spec};
 ghost use Rattle.ntuple_compile.specs.SpecFits.{AgreesWith, FitsFirst, NoneFits, action_for, agrees, spec_fits, table_action};
 ghost use Rattle.ntuple_compile.specs.Selected.{key_for, selectors_of};
 ghost use Rattle.ntuple_compile.specs.Compiled.{compiled};
-ghost use Rattle.ntuple_compile.specs.Acceptance.{ActAs, AreAccepted};
+ghost use Rattle.ntuple_compile.specs.Acceptance.{ActAs, AreAccepted, IsWritable};
 
 /// A given field agrees with a number exactly where both have the same bit at each place that isn't skipped.
 pub fn fields_agree_bit_by_bit()
@@ -50,4 +50,10 @@ pub fn compiled_commands_are_accepted()
 pub fn compiled_commands_act_as_the_table()
     ensures { (table : TableMap) (caps : CapsParts) (commands : List Command) → IsTable table.pairs table.slots
         → table.pairs ≡ caps.pairs → compiled table caps ≡ Ok commands → ActAs caps commands table }
+{}
+
+/// Each of them has bytes, and no more than this project's driver writes.
+pub fn compiled_commands_can_be_written()
+    ensures { (table : TableMap) (caps : CapsParts) (commands : List Command) → compiled table caps ≡ Ok commands
+        → All IsWritable commands }
 {}

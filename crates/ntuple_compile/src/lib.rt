@@ -9,10 +9,11 @@
 //! `header`), and the definitions of the rest, in specs/: `HeaderFields` and `SpecFits` (when a frame fits a spec, and
 //! what a table does with it: fields as numbers, with no selector, key or mask of bytes), `Selected` (the selectors and
 //! the key of a spec), `Written` (numbers that are written bit by bit), `Compiled` (the objects and commands of a
-//! table, and the refusals) and `Acceptance` (when a device obeys commands, and acts as a table). It promises in `laws`
-//! that a given field agrees with a frame's bit by bit, that the least location decides, that a frame matches the
-//! selectors and the key of a spec exactly where it fits the spec, that a device which starts ready answers each
-//! command of a compiled table with OK, and that after them it does with every frame what the table does.
+//! table, and the refusals) and `Acceptance` (when commands can be written, when a device obeys them, and when it acts
+//! as a table). It promises in `laws` that a given field agrees with a frame's bit by bit, that the least location
+//! decides, that a frame matches the selectors and the key of a spec exactly where it fits the spec, that each command
+//! of a compiled table has bytes, that a device which starts ready answers each with OK, and that after them it does
+//! with every frame what the table does.
 //!
 //! Worked examples stand in `proofs/CompileExamples.antt`.
 #![tactic(auto)]
