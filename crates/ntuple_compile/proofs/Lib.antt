@@ -20,4 +20,5 @@ pub mod PutClassifiers
 pub mod PutRules
 pub mod AcceptedCommands
 pub mod WritableCommands
+pub mod CompiledResults
 mod CompileExamples
