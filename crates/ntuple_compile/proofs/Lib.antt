@@ -9,4 +9,7 @@ pub mod KeyLemmas
 pub mod RuleOrder
 pub mod RuleActions
 pub mod RuleMatches
+pub mod ShapeLemmas
+pub mod RefusalLemmas
+pub mod CommandLemmas
 mod CompileExamples
