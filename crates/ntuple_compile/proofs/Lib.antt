@@ -21,4 +21,7 @@ pub mod PutRules
 pub mod AcceptedCommands
 pub mod WritableCommands
 pub mod CompiledResults
+pub mod ShapeLemmas
+pub mod RefusalLemmas
+pub mod CommandLemmas
 mod CompileExamples

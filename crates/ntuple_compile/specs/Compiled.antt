@@ -1,7 +1,7 @@
 -- The commands that a table of specs is compiled to, and why a table can't be. The commands create resource objects of
 -- the Virtio 1.4 draft's flow filters; which groups, classifiers and rules stand for a table, their numbers, and the
 -- refusals with their order are this project's own.
-use Rattle.std.specs.Prelude.{ℕ, ◌+◌, ◌*◌, ◌/◌, ◌%◌, min, Bool, not, ◌&&◌, nat_lt, if◌then◌else◌, List, [], ◌∷◌, ◌++◌, map, length, Option, Some, None, Result, Ok, Err}
+use Rattle.std.specs.Prelude.{◌≡◌, ⊤, ℕ, ◌+◌, ◌*◌, ◌/◌, ◌%◌, min, Bool, not, ◌&&◌, nat_lt, if◌then◌else◌, List, [], ◌∷◌, ◌++◌, map, length, Option, Some, None, Result, Ok, Err}
 use Rattle.std.specs.Prelude.{find, filter, option_map, bytes_eq}
 use Rattle.std.specs.List.{list_all, enumerate_from, range_with_len, zip, position_or_len}
 use Rattle.std.specs.Int.{div_ceil}
@@ -21,6 +21,7 @@ use Rattle.admin_wire.specs.declared.command.ObjData.TheVariants.{Group, Classif
 use Rattle.admin_wire.specs.declared.command.ObjHead.{ObjHead}
 use Rattle.admin_wire.specs.declared.command.RawKey.TheVariants as raw_key
 use Rattle.admin_wire.specs.declared.command.RawList.TheVariants as raw_list
+use Rattle.admin_wire.specs.declared.command.RawRule.{RawRule}
 use Rattle.cap_table.specs.Caps.{CapsParts, is_supported}
 use Rattle.ntuple_text.specs.TableMaps.{TableMap}
 use Rattle.ntuple_text.specs.declared.spec.Spec.{Spec}
@@ -29,7 +30,7 @@ use Rattle.ntuple_text.specs.declared.spec.TableDo.TheVariants.{Drop, Queue}
 use Rattle.ntuple_compile.specs.SpecFits.{specs_of}
 use Rattle.ntuple_compile.specs.Selected.{selectors_of, key_for}
 use Rattle.ntuple_compile.specs.declared.error.CompileErr.{CompileErr}
-use Rattle.ntuple_compile.specs.declared.error.CompileErr.TheVariants.{Unsupported, Rules, Classifiers, Levels, PerGroup}
+use Rattle.ntuple_compile.specs.declared.error.CompileErr.TheVariants.{Unsupported, Rules, Classifiers, Levels, PerGroup, Memory}
 
 -- ---- classifiers
 
@@ -60,7 +61,8 @@ shape_number shapes spec = position_or_len (same_shape (selectors_of spec)) shap
 
 -- ---- groups and rules
 
--- how many rules stand in a group: each has a priority of its own, up to the last one
+-- how many rules stand in a group: each has a priority of its own, up to the last one, and there are no more than the
+-- limit per group
 abbrev pub rules_per_group : Limits → ℕ
 rules_per_group limits = min (limits.last_priority + 1) limits.per_group
 
@@ -108,16 +110,19 @@ abbrev pub action_byte : RuleAction → ℕ
 action_byte rule_action.Drop = drop_action
 action_byte rule_action.Queue = queue_action
 
+-- a rule as a command lays it out
+abbrev pub raw_rule : RuleParts → RawRule
+raw_rule rule = record {
+  group = rule.group;
+  classifier = rule.classifier;
+  priority = rule.priority;
+  action = action_byte rule.action;
+  vq = rule.vq;
+  key = raw_key.Good (record { items = rule.key });
+}
+
 abbrev pub create_rule : ℕ × RuleParts → Command
-create_rule rule =
-    Create (create_head rule_type rule.0) (Rule (record {
-      group = rule.1.group;
-      classifier = rule.1.classifier;
-      priority = rule.1.priority;
-      action = action_byte rule.1.action;
-      vq = rule.1.vq;
-      key = raw_key.Good (record { items = rule.1.key });
-    }))
+create_rule rule = Create (create_head rule_type rule.0) (Rule (raw_rule rule.1))
 
 -- the commands that create objects: all groups, then all classifiers, then all rules, each by rising id
 unfoldable pub creates_of : FlowObjects → List Command
@@ -150,18 +155,20 @@ first_fault (Some fault ∷ faults) = Some fault
 abbrev pub specs_fault : CapsParts → List Spec → Option CompileErr
 specs_fault caps specs = first_fault (map (spec_fault caps) specs)
 
--- what is wrong with specs by rising location, in this order: a selector that the device doesn't have, more rules than
--- its limit, more classifiers, more rules than its groups have priorities for, and than may stand in them
+-- what is wrong with the numbers of rules and of classifiers: more rules than their limit, more classifiers, more rules
+-- than the groups have priorities for, and than may stand in the groups
+abbrev pub count_faults : Limits → ℕ → ℕ → List (Option CompileErr)
+count_faults limits rules classifiers =
+    above Rules rules limits.rules
+    ∷ above Classifiers classifiers limits.classifiers
+    ∷ above Levels rules (limits.groups * (limits.last_priority + 1))
+    ∷ above PerGroup rules (limits.groups * limits.per_group)
+    ∷ []
+
+-- what is wrong with specs by rising location: first a selector that the device doesn't have, then their numbers
 unfoldable pub compile_fault : CapsParts → List Spec → Option CompileErr
 compile_fault caps specs =
-    let limits = caps.limits in
-    first_fault
-    (specs_fault caps specs
-    ∷ above Rules (length specs) limits.rules
-    ∷ above Classifiers (length (shapes_of specs)) limits.classifiers
-    ∷ above Levels (length specs) (limits.groups * (limits.last_priority + 1))
-    ∷ above PerGroup (length specs) (limits.groups * limits.per_group)
-    ∷ [])
+    first_fault (specs_fault caps specs ∷ count_faults caps.limits (length specs) (length (shapes_of specs)))
 
 -- the commands for specs by rising location, or what is wrong with these
 unfoldable pub compiled_specs : CapsParts → List Spec → Result (List Command) CompileErr
@@ -171,3 +178,8 @@ compiled_specs caps specs =
 -- the commands for a table, or what is wrong with it
 abbrev pub compiled : TableMap → CapsParts → Result (List Command) CompileErr
 compiled table caps = compiled_specs caps (specs_of table)
+
+-- the error says what is wrong with the table, unless memory ran out
+abbrev pub IsFaultOf : Result (List Command) CompileErr → CompileErr → Type 0
+IsFaultOf spelled Memory = ⊤
+IsFaultOf spelled err = spelled ≡ Err err

@@ -4,3 +4,4 @@ pub mod Selected
 pub mod Written
 pub mod Compiled
 pub mod Acceptance
+pub mod ShapeBytes

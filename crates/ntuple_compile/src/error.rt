@@ -1,6 +1,10 @@
 //! Why a table can't be compiled for a device.
 
+ghost use Rattle.std.specs.Prelude.{◌≡◌};
+ghost use Rattle.ntuple_compile.specs.declared.error.CompileErr.TheVariants as errors;
+
 use ff_headers::Kind;
+use std::alloc::AllocError;
 
 /// Why a table has no commands for a device.
 #[derive(Clone, Copy, Debug, PartialEq, Eq)]
@@ -18,4 +22,12 @@ pub enum CompileErr {
     PerGroup(u32),
     /// No memory was left.
     Memory,
+}
+
+impl From<AllocError> for CompileErr {
+    ghost from_gives = { λ _ err. err ≡ errors.Memory };
+
+    fn from(_: AllocError) -> CompileErr {
+        CompileErr::Memory
+    }
 }

@@ -18,9 +18,14 @@
 //! Worked examples stand in `proofs/CompileExamples.antt`.
 #![tactic(auto)]
 
+mod commands;
+mod compiling;
 mod error;
 mod header;
 pub mod laws;
+mod refusals;
 mod selected;
+mod shapes;
 
+pub use compiling::compile;
 pub use error::CompileErr;
