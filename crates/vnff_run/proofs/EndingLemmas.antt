@@ -5,7 +5,7 @@ use Rattle.std.proofs.lemmas.Option.{IfSome_then}
 use Rattle.vnff_base.specs.Shelves.{Files, ShelfState}
 use Rattle.vnff_base.specs.Outputs.{OutputState}
 use Rattle.vnff_base.proofs.Writing.{told_after-nil}
-use Rattle.vnff_run.specs.Endings.{ReadStops, ReadsInput, RunsAs, FormStops, FormEnds, AppendedFront, IsUntouched, IsDone}
+use Rattle.vnff_run.specs.Endings.{ReadStops, ReadsInput, RunsAs, FormStops, FormEnds, AppendedFront, IsUntouched, IsDone, IsRefusedBehind}
 use Rattle.vnff_run.specs.Inputs.{InputFault}
 use Rattle.vnff_run.specs.Outcomes.{Outcome, outcome_with}
 use Rattle.vnff_run.specs.declared.stop.Stop.{Stop}
@@ -22,6 +22,7 @@ form_stops shelf shelf_new out out_new input run stops.ReadFault why left =
     (left, ⊎_elim inl (λ missing. inr (some_then shelf.files missing (λ files is. ap (outcome_with run) is))) why)
 form_stops shelf shelf_new out out_new input run (stops.Refused refused) why left =
     (left, IfSome_then shelf.files why.1 (λ files is. ap (outcome_with run) is))
+form_stops shelf shelf_new out out_new input run stops.AlreadyRefused why left = absurd why
 form_stops shelf shelf_new out out_new input run stops.WriteFault why left = absurd why
 form_stops shelf shelf_new out out_new input run stops.Memory why left =
     (why, left.1, if_told shelf.files (λ files. wrote_none out out_new (outcome_with run (input files)).text left.0)) where
@@ -35,6 +36,8 @@ form_runs shelf shelf_new out out_new input run value (Ok x) read ran =
     IfSome_then shelf.files read.1 (λ files is. subst (IsDone out out_new) (sym (ap (outcome_with run) is)) ran)
 form_runs shelf shelf_new out out_new input run value (Err stops.ReadFault) read ran = absurd ran
 form_runs shelf shelf_new out out_new input run value (Err (stops.Refused refused)) read ran = absurd ran
+form_runs shelf shelf_new out out_new input run value (Err stops.AlreadyRefused) read ran =
+    IfSome_then shelf.files read.1 (λ files is. subst (IsRefusedBehind out out_new) (sym (ap (outcome_with run) is)) ran)
 form_runs shelf shelf_new out out_new input run value (Err stops.WriteFault) read ran =
     (ran.rose, IfSome_then shelf.files read.1 (λ files is. subst (λ (o : Outcome). AppendedFront out out_new o.text) (sym (ap (outcome_with run) is)) ran.told))
 form_runs shelf shelf_new out out_new input run value (Err stops.Memory) read ran =

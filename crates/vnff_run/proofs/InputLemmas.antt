@@ -1,10 +1,14 @@
 -- Reading an input in parts: what stops a part stops the whole, and what the parts give is what the whole gives.
-use Rattle.std.proofs.Common.{◌≡◌, ℕ, List, Option, Some, None, Result, Ok, sym, ap, ◌∙◌, inl, inr, ⊎_elim}
+use Rattle.std.proofs.Common.{◌≡◌, ℕ, List, Option, Some, None, Result, Ok, length, refl, sym, ap, ◌∙◌, inl, inr, ⊎_elim}
 use Rattle.std.specs.Prelude.{IsSomeAnd}
 use Rattle.std.proofs.lemmas.Option.{IfSome_then}
+use Rattle.split_queue.specs.DeviceEnds.{device_start}
+use Rattle.split_queue.specs.Setup.{setup_fault}
+use Rattle.split_queue.specs.declared.queue_place.Place.{Place}
+use Rattle.split_queue.specs.declared.setup.SetupErr.{SetupErr}
 use Rattle.vnff_base.specs.Shelves.{Files, ShelfState}
 use Rattle.vnff_run.specs.Endings.{ReadStops, ReadsInput, script_stop}
-use Rattle.vnff_run.specs.Inputs.{InputFault, bytes_in, script_in, script_or_refusal}
+use Rattle.vnff_run.specs.Inputs.{InputFault, bytes_in, queue_in, queue_or_refusal, script_in, script_or_refusal}
 use Rattle.vnff_run.specs.Readings.{IsFaultOf}
 use Rattle.vnff_run.specs.Results.{◌>>=◌}
 use Rattle.vnff_run.specs.Grammar.{script_of}
@@ -12,6 +16,7 @@ use Rattle.vnff_run.specs.declared.script.Script.{Script}
 use Rattle.vnff_run.specs.declared.script.ScriptFault.{ScriptFault}
 use Rattle.vnff_run.specs.declared.script.ScriptFault.TheVariants as faults
 use Rattle.vnff_run.specs.declared.stop.FileKind.TheVariants as kinds
+use Rattle.vnff_run.specs.declared.stop.RefusedInput.TheVariants.{BadImage}
 use Rattle.vnff_run.specs.declared.stop.Stop.{Stop}
 use Rattle.vnff_run.specs.declared.stop.Stop.TheVariants as stops
 
@@ -25,6 +30,7 @@ read_stops shelf shelf_new part next stops.ReadFault why =
     ⊎_elim inl (λ missing. inr (some_then shelf.files missing (λ files is. ap (λ p. p >>= next files) is))) why
 read_stops shelf shelf_new part next (stops.Refused input) why =
     (why.0, IfSome_then shelf.files why.1 (λ files is. ap (λ p. p >>= next files) is))
+read_stops shelf shelf_new part next stops.AlreadyRefused why = why
 read_stops shelf shelf_new part next stops.WriteFault why = why
 read_stops shelf shelf_new part next stops.Memory why = why
 
@@ -40,3 +46,15 @@ unfolding script_in
 script_stops shelf shelf_new name bytes text (faults.Bad line reason) read same is =
     (read.0, IfSome_then shelf.files read.1 (λ files is_there. ap (λ p. p >>= λ b. script_or_refusal (script_of b)) (is_there ∙ ap Ok (sym same)) ∙ ap script_or_refusal is))
 script_stops shelf shelf_new name bytes text faults.Memory read same is = read.0
+
+-- the bytes of a file are an image in which a queue can lie
+pub queue_read : (shelf shelf_new : ShelfState) (name bytes image : List ℕ) (place : Place) → ReadsInput shelf shelf_new (bytes_in kinds.Image name) (Ok bytes) → image ≡ bytes → setup_fault place (length image) ≡ None → ReadsInput shelf shelf_new (queue_in name place) (Ok (image, device_start place (length image) 0))
+unfolding queue_in
+queue_read shelf shelf_new name bytes image place read same none =
+    (read.0, IfSome_then shelf.files read.1 (λ files is_there. ap (λ p. p >>= queue_or_refusal place) (is_there ∙ ap Ok (sym same)) ∙ rw (queue_or_refusal, none) refl))
+
+-- or they are refused
+pub queue_stops : (shelf shelf_new : ShelfState) (name bytes image : List ℕ) (place : Place) (fault : SetupErr) → ReadsInput shelf shelf_new (bytes_in kinds.Image name) (Ok bytes) → image ≡ bytes → setup_fault place (length image) ≡ Some fault → ReadStops shelf shelf_new (queue_in name place) (stops.Refused (BadImage fault))
+unfolding queue_in
+queue_stops shelf shelf_new name bytes image place fault read same is =
+    (read.0, IfSome_then shelf.files read.1 (λ files is_there. ap (λ p. p >>= queue_or_refusal place) (is_there ∙ ap Ok (sym same)) ∙ rw (queue_or_refusal, is) refl))

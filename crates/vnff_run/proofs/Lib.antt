@@ -1,8 +1,12 @@
 mod AnswerLemmas
+mod DrainLemmas
+mod DrainRows
 mod EndingLemmas
 mod GrammarExamples
 mod GrammarLemmas
 mod InputLemmas
+mod ItemBounds
+mod QueuePlaced
 mod ReplayLemmas
 mod Rows
 mod ScriptReadBack

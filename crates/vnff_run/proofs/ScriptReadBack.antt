@@ -119,7 +119,7 @@ selectors-read last from (selector ∷ selectors) items rising whole named =
 admin-read : (line : AdminLine) → IsCommand line → item_of (item_words (Admin line)) ≡ Ok (Admin line)
 unfolding item_of admin_of item_words
 admin-read line good =
-    rw (bytes-read reasons.Hex 1 1024 line.bytes good.bytes good.some good.most, number-read reasons.Room 0 4096 line.room (omega arith) good.room (omega (arith, good.room))) refl
+    rw (bytes-read reasons.Hex 1 1024 line.bytes good.bytes good.within.some good.within.most, number-read reasons.Room 0 4096 line.room (omega arith) good.within.room (omega (arith, good.within.room))) refl
 
 frame-read : (frame : List ℕ) → IsFrame frame → item_of (item_words (Frame frame)) ≡ Ok (Frame frame)
 unfolding item_of frame_of item_words

@@ -61,7 +61,7 @@ select-spelled selector named =
 item-spelled : (item : Item) → IsItem item → IsSpelledLine (item_words item)
 unfolding item_words
 item-spelled (Admin line) good =
-    line-spelled (item_words (Admin line)) (literal-spelled (codes "admin") refl refl, (hex-spelled line.bytes, (decimal-spelled line.room (omega (arith, good.room)), tt))) refl
+    line-spelled (item_words (Admin line)) (literal-spelled (codes "admin") refl refl, (hex-spelled line.bytes, (decimal-spelled line.room (omega (arith, good.within.room)), tt))) refl
 item-spelled (Frame frame) good =
     line-spelled (item_words (Frame frame)) (literal-spelled (codes "frame") refl refl, (hex-spelled frame, tt)) refl
 

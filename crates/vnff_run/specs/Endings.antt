@@ -59,6 +59,7 @@ abbrev pub ReadStops : {A : Type 0} → ShelfState → ShelfState → (Files →
 ReadStops old new input stops.ReadFault = ReadFailed old new ⊎ IsSomeAnd old.files (λ files. input files ≡ Err Missing)
 ReadStops old new input (stops.Refused refusal) =
     NoReadFailed old new × IfSome old.files (λ files. input files ≡ Err (Refused refusal))
+ReadStops old new input stops.AlreadyRefused = ⊥
 ReadStops old new input stops.WriteFault = ⊥
 ReadStops old new input stops.Memory = NoReadFailed old new
 
@@ -67,8 +68,14 @@ abbrev pub ReadsInput : {A : Type 0} → ShelfState → ShelfState → (Files �
 ReadsInput old new input (Ok value) = NoReadFailed old new × IfSome old.files (λ files. input files ≡ Ok value)
 ReadsInput old new input (Err stop) = ReadStops old new input stop
 
--- Why doing what has an outcome stopped, over an input that was read: a failed write, or want of memory.
+-- The outcome is that an input is refused behind a text, and all of it was written.
+abbrev pub IsRefusedBehind : OutputState → OutputState → Outcome → Type 0
+IsRefusedBehind old new outcome = (outcome.status ≡ refused_status) × Wrote old new outcome.text
+
+-- Why doing what has an outcome stopped, over an input that was read: a refusal behind what was written, a failed write,
+-- or want of memory.
 abbrev pub RunStops : OutputState → OutputState → Outcome → Stop → Type 0
+RunStops old new outcome stops.AlreadyRefused = IsRefusedBehind old new outcome
 RunStops old new outcome stops.WriteFault = Stopped old new outcome.text
 RunStops old new outcome stops.Memory = NoWriteFailed old new × AppendedFront old new outcome.text
 RunStops old new outcome _ = ⊥
@@ -82,13 +89,15 @@ abbrev pub RunsAs : {A : Type 0} → OutputState → OutputState → Outcome →
 RunsAs old new outcome (Ok _) = IsDone old new outcome
 RunsAs old new outcome (Err stop) = RunStops old new outcome stop
 
--- Why a form stopped. What is refused is not yet written.
+-- Why a form stopped. Of what is refused the line is not yet written, but for a refusal behind what was written.
 abbrev pub FormStops : ShelfState → ShelfState → OutputState → OutputState → (Files → Outcome) → Stop → Type 0
 FormStops shelf shelf_new out out_new outcome stops.ReadFault =
     IsUntouched out out_new
     × (ReadFailed shelf shelf_new ⊎ IsSomeAnd shelf.files (λ files. outcome files ≡ fault_outcome Missing))
 FormStops shelf shelf_new out out_new outcome (stops.Refused refusal) =
     IsUntouched out out_new × WhereTold shelf outcome (λ end. end ≡ fault_outcome (Refused refusal))
+FormStops shelf shelf_new out out_new outcome stops.AlreadyRefused =
+    WhereTold shelf outcome (λ end. IsRefusedBehind out out_new end)
 FormStops shelf shelf_new out out_new outcome stops.WriteFault =
     WriteFailed out out_new × WhereTold shelf outcome (λ end. AppendedFront out out_new end.text)
 FormStops shelf shelf_new out out_new outcome stops.Memory =
@@ -111,6 +120,7 @@ WritesRefusal old new input status =
 abbrev pub IsStatusOfStop : OutputState → OutputState → Stop → ℕ → Type 0
 IsStatusOfStop old new stops.ReadFault status = (status ≡ read_status) × IsUntouched old new
 IsStatusOfStop old new (stops.Refused input) status = WritesRefusal old new input status
+IsStatusOfStop old new stops.AlreadyRefused status = (status ≡ refused_status) × IsUntouched old new
 IsStatusOfStop old new stops.WriteFault status = (status ≡ write_status) × IsUntouched old new
 IsStatusOfStop old new stops.Memory status = (status ≡ memory_status) × IsUntouched old new
 

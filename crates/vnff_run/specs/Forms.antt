@@ -1,18 +1,24 @@
 -- The forms of words that the program takes, this project's own. The words are those behind the program's own name.
-use Rattle.std.specs.Prelude.{ℕ, List, [], ◌∷◌, codes, Option, Some, None, if◌then◌else◌}
+use Rattle.std.specs.Prelude.{ℕ, List, [], ◌∷◌, codes, Option, Some, None, option_map, if◌then◌else◌}
 use Rattle.std.specs.Str.{bytes_eq}
+use Rattle.split_queue.specs.declared.queue_place.Place.{Place}
+use Rattle.vnff_run.specs.DrainWords.{place_of}
 use Rattle.vnff_run.specs.declared.form.Form.{Form}
 use Rattle.vnff_run.specs.declared.form.Form.TheVariants as forms
 
 -- what the words ask for; each file by its name
 pub data WordForm : Type 0 where
   Replay : (script : List ℕ) → WordForm
+  Drain : (image : List ℕ) → (place : Place) → WordForm
 
--- the form of the words: `replay SCRIPT`
+-- the form of the words: `replay SCRIPT`, or `drain IMAGE SIZE DESC AVAIL USED`
 unfoldable pub form_of : List (List ℕ) → Option WordForm
 form_of (form ∷ script ∷ []) = if bytes_eq form (codes "replay") then Some (Replay script) else None
+form_of (form ∷ image ∷ size ∷ desc ∷ avail ∷ used ∷ []) =
+    if bytes_eq form (codes "drain") then option_map (Drain image) (place_of size desc avail used) else None
 form_of _ = None
 
 -- a form as the code keeps it
 abbrev pub form_view : Form → WordForm
 form_view (forms.Replay script) = Replay script.now
+form_view (forms.Drain image place) = Drain image.now place

@@ -1,6 +1,9 @@
 -- What the files give that words name, or what is at fault with them. This project's own.
 use Rattle.std.specs.Prelude.{ℕ, List, length, Option, Some, None, Result, Ok, Err, nat_lt, if◌then◌else◌}
 use Rattle.vnff_base.specs.Shelves.{Files}
+use Rattle.split_queue.specs.DeviceEnds.{DeviceEndState, device_start}
+use Rattle.split_queue.specs.Setup.{setup_fault}
+use Rattle.split_queue.specs.declared.queue_place.Place.{Place}
 use Rattle.vnff_run.specs.Results.{◌>>=◌}
 use Rattle.vnff_run.specs.Grammar.{script_of}
 use Rattle.vnff_run.specs.declared.script.Script.{Script}
@@ -8,7 +11,7 @@ use Rattle.vnff_run.specs.declared.script.Reason.{Reason}
 use Rattle.vnff_run.specs.declared.stop.FileKind.{FileKind}
 use Rattle.vnff_run.specs.declared.stop.FileKind.TheVariants as kinds
 use Rattle.vnff_run.specs.declared.stop.RefusedInput.{RefusedInput}
-use Rattle.vnff_run.specs.declared.stop.RefusedInput.TheVariants.{TooLong, BadScript}
+use Rattle.vnff_run.specs.declared.stop.RefusedInput.TheVariants.{TooLong, BadScript, BadImage}
 
 -- the longest file that is read, in bytes: 64 MiB
 abbrev pub file_limit : ℕ
@@ -36,3 +39,14 @@ script_or_refusal (Err fault) = Err (Refused (BadScript fault.0 fault.1))
 -- the script in the file of that name
 unfoldable pub script_in : List ℕ → Files → Result Script InputFault
 script_in name files = bytes_in kinds.Script name files >>= λ bytes. script_or_refusal (script_of bytes)
+
+-- a memory with the device's end of the queue at a place, or the refusal of a place where no queue can lie
+abbrev pub queue_or_refusal : Place → List ℕ → Result (List ℕ × DeviceEndState) InputFault
+queue_or_refusal place image = elim (setup_fault place (length image)) [
+  | Some fault ↦ Err (Refused (BadImage fault))
+  | None ↦ Ok (image, device_start place (length image) 0)
+]
+
+-- the queue at a place in the image of guest memory that the file of that name is
+unfoldable pub queue_in : List ℕ → Place → Files → Result (List ℕ × DeviceEndState) InputFault
+queue_in name place files = bytes_in kinds.Image name files >>= queue_or_refusal place

@@ -1,5 +1,5 @@
 -- The lines of a script's items, this project's own: `admin HEX ROOM` and `frame HEX`.
-use Rattle.std.specs.Prelude.{ℕ, if◌then◌else◌, List, [], ◌∷◌, codes, Result, Ok, Err}
+use Rattle.std.specs.Prelude.{ℕ, ◌≤◌, if◌then◌else◌, List, [], ◌∷◌, length, codes, Result, Ok, Err}
 use Rattle.std.specs.Str.{bytes_eq}
 use Rattle.vnff_run.specs.Results.{◌>>=◌}
 use Rattle.vnff_run.specs.Words.{bytes_within, number_within}
@@ -43,3 +43,14 @@ item_of (name ∷ words) =
     if bytes_eq name (codes "admin") then admin_of words
     else if bytes_eq name (codes "frame") then frame_of words
     else Err Word
+
+-- a command with its room is within the limits
+pub record IsCommandWithin (line : AdminLine) : Type 0 where
+  pub some : 1 ≤ length line.bytes
+  pub most : length line.bytes ≤ most_command
+  pub room : line.room ≤ most_room
+
+-- an item is, of what lines give
+abbrev pub IsWithin : Item → Type 0
+IsWithin (Admin line) = IsCommandWithin line
+IsWithin (Frame frame) = length frame ≤ most_frame

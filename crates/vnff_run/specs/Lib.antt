@@ -1,5 +1,7 @@
 pub mod DeviceFiles
 pub mod DeviceLines
+pub mod Drain
+pub mod DrainWords
 pub mod Endings
 pub mod Forms
 pub mod Grammar
@@ -12,5 +14,4 @@ pub mod Results
 pub mod ScriptTexts
 pub mod SelectLines
 pub mod Spellable
-pub mod Steering
 pub mod Words

@@ -1,15 +1,19 @@
 -- What a run of the program ends with, this project's own: a status, and the text that it writes.
 use Rattle.std.specs.Prelude.{ℕ, List, [], ◌++◌, codes, decimal, Option, Some, None, Result, Ok, Err}
 use Rattle.vnff_base.specs.Shelves.{Files}
-use Rattle.vnff_run.specs.Forms.{WordForm, Replay, form_of}
-use Rattle.vnff_run.specs.Inputs.{InputFault, Missing, Refused, script_in}
+use Rattle.vnff_run.specs.Forms.{WordForm, Replay, Drain, form_of}
+use Rattle.split_queue.specs.declared.queue_place.Place.{Place}
+use Rattle.vnff_run.specs.Drain.{drain_last, drain_text, setup_word}
+use Rattle.vnff_run.specs.Inputs.{InputFault, Missing, Refused, queue_in, script_in}
 use Rattle.vnff_run.specs.Replay.{replay_text, line_feed}
+use Rattle.vnff_run.specs.declared.drain.Last.{Last}
+use Rattle.vnff_run.specs.declared.drain.Last.TheVariants.{Empty, Faulty}
 use Rattle.vnff_run.specs.declared.script.Reason.{Reason}
 use Rattle.vnff_run.specs.declared.script.Reason.TheVariants as reasons
 use Rattle.vnff_run.specs.declared.stop.FileKind.{FileKind}
 use Rattle.vnff_run.specs.declared.stop.FileKind.TheVariants as kinds
 use Rattle.vnff_run.specs.declared.stop.RefusedInput.{RefusedInput}
-use Rattle.vnff_run.specs.declared.stop.RefusedInput.TheVariants.{TooLong, BadScript}
+use Rattle.vnff_run.specs.declared.stop.RefusedInput.TheVariants.{TooLong, BadScript, BadImage}
 
 -- The exit statuses.
 -- everything was done
@@ -44,6 +48,7 @@ pub record Outcome : Type 0 where
 -- what a file was to be, in a refusal's line
 abbrev pub kind_word : FileKind → List ℕ
 kind_word kinds.Script = codes "script"
+kind_word kinds.Image = codes "image"
 
 -- why a script is refused, in a refusal's line
 abbrev pub reason_word : Reason → List ℕ
@@ -64,6 +69,7 @@ fault_words line reason = codes "script:" ++ (decimal line ++ (codes " " ++ reas
 unfoldable pub refusal_words : RefusedInput → List ℕ
 refusal_words (TooLong kind) = kind_word kind ++ codes " too-long"
 refusal_words (BadScript line reason) = fault_words line reason
+refusal_words (BadImage fault) = codes "image " ++ setup_word fault
 
 -- the line of a refusal
 unfoldable pub refusal_line : RefusedInput → List ℕ
@@ -81,6 +87,16 @@ abbrev pub fault_outcome : InputFault → Outcome
 fault_outcome Missing = silent_outcome read_status
 fault_outcome (Refused refusal) = record { status = refused_status; text = refusal_line refusal }
 
+-- what stands behind the chains of a ring decides on the status of their drain
+abbrev pub last_status : Last → ℕ
+last_status (Empty _) = done_status
+last_status (Faulty _) = refused_status
+
+-- the queue at a place in an image is drained; the line of a fault stands behind those of the chains before it
+abbrev pub drain_outcome : List ℕ → Place → Outcome
+drain_outcome image place =
+    record { status = last_status (drain_last image place); text = drain_text image place }
+
 -- what is done with an input, or the input's fault
 abbrev pub outcome_with : {A : Type 0} → (A → Outcome) → Result A InputFault → Outcome
 outcome_with run (Ok input) = run input
@@ -89,6 +105,7 @@ outcome_with run (Err fault) = fault_outcome fault
 -- the outcome of a form over files
 unfoldable pub outcome_in : WordForm → Files → Outcome
 outcome_in (Replay script) files = outcome_with (λ s. done_outcome (replay_text s)) (script_in script files)
+outcome_in (Drain image place) files = outcome_with (λ queue. drain_outcome queue.0 place) (queue_in image place files)
 
 -- the outcome of what may be a form
 abbrev pub outcome_by : Option WordForm → Files → Outcome

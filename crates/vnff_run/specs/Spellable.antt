@@ -3,7 +3,7 @@ use Rattle.std.specs.Prelude.{ℕ, ◌≤◌, List, length, All}
 use Rattle.ff_headers.specs.SelectorParts.{SelectorParts}
 use Rattle.vnff_base.specs.Bytes.{IsBytes}
 use Rattle.cap_table.specs.Caps.{AreCaps}
-use Rattle.vnff_run.specs.ItemLines.{most_command, most_room, most_frame}
+use Rattle.vnff_run.specs.ItemLines.{IsCommandWithin, most_frame}
 use Rattle.vnff_run.specs.declared.script.AdminLine.{AdminLine}
 use Rattle.vnff_run.specs.declared.script.Item.{Item}
 use Rattle.vnff_run.specs.declared.script.Item.TheVariants.{Admin, Frame}
@@ -16,10 +16,8 @@ pub record IsNamed (selector : SelectorParts) : Type 0 where
 
 -- a command, which has bytes, with the room for its reply
 pub record IsCommand (line : AdminLine) : Type 0 where
-  pub some : 1 ≤ length line.bytes
-  pub most : length line.bytes ≤ most_command
+  pub within : IsCommandWithin line
   pub bytes : IsBytes line.bytes
-  pub room : line.room ≤ most_room
 
 -- a frame that a line can give
 pub record IsFrame (frame : List ℕ) : Type 0 where

@@ -2,12 +2,14 @@
 
 ghost use Rattle.std.specs.Prelude.{◌≡◌, decimal};
 ghost use Rattle.vnff_base.specs.Outputs.{Writes};
+ghost use Rattle.vnff_run.specs.Drain.{setup_word};
 ghost use Rattle.vnff_run.specs.Endings.{IsStatusOf, WritesRefusal};
 ghost use Rattle.vnff_run.specs.Outcomes.{fault_words, kind_word, reason_word, refusal_line, refusal_words};
 
 use crate::script::Reason;
 use crate::stop::{FileKind, RefusedInput, Stop};
 use itoa::Buffer;
+use split_queue::SetupErr;
 use vnff_base::{Failed, Out};
 
 /// The exit status where everything was done.
@@ -36,6 +38,7 @@ pub fn exit_status<O: Out>(ended: Result<(), Stop>, out: &mut O) -> u8
         Ok(()) => DONE,
         Err(Stop::ReadFault) => READ_FAULT,
         Err(Stop::Refused(input)) => refuse(input, out),
+        Err(Stop::AlreadyRefused) => REFUSED,
         Err(Stop::WriteFault) => WRITE_FAULT,
         Err(Stop::Memory) => NO_MEMORY,
     }
@@ -72,6 +75,10 @@ fn put_refusal_words<O: Out>(out: &mut O, input: RefusedInput) -> Result<(), Fai
             out.put(b" too-long")
         }
         RefusedInput::BadScript(line, reason) => put_fault(out, line, reason),
+        RefusedInput::BadImage(fault) => {
+            out.put(b"image ")?;
+            out.put(setup_word(fault))
+        }
     }
 }
 
@@ -100,6 +107,7 @@ fn kind_word(kind: FileKind) -> &'static [u8]
 {
     match kind {
         FileKind::Script => b"script",
+        FileKind::Image => b"image",
     }
 }
 
@@ -116,5 +124,17 @@ fn reason_word(reason: Reason) -> &'static [u8]
         Reason::Room => b"room",
         Reason::Word => b"word",
         Reason::Start => b"start",
+    }
+}
+
+/// Why no queue can lie at a place, in words.
+fn setup_word(fault: SetupErr) -> &'static [u8]
+    ensures { result.now ≡ setup_word fault }
+{
+    match fault {
+        SetupErr::Size => b"size",
+        SetupErr::Align => b"align",
+        SetupErr::Area => b"area",
+        SetupErr::Overlap => b"overlap",
     }
 }

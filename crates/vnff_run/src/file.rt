@@ -1,8 +1,9 @@
 //! Files, read from a shelf to their ends, and what they hold.
 
-ghost use Rattle.std.specs.Prelude.{◌≡◌, ◌≤◌, length, IfOk};
+ghost use Rattle.std.specs.Prelude.{◌≡◌, ◌≤◌, All, length, IfOk};
 ghost use Rattle.vnff_run.specs.Endings.{ReadsInput};
 ghost use Rattle.vnff_run.specs.Inputs.{bytes_in, file_limit, script_in};
+ghost use Rattle.vnff_run.specs.ItemLines.{IsWithin};
 
 use crate::grammar::read_script;
 use crate::script::Script;
@@ -14,7 +15,7 @@ use vnff_base::{List, ReadErr, Shelf, read_all};
 const FILE_LIMIT: u64 = 67_108_864;
 
 /// The bytes of a file that is to be one of this kind.
-fn bytes_in<S: Shelf>(
+pub(crate) fn bytes_in<S: Shelf>(
     alloc: Global,
     kind: FileKind,
     name: &str,
@@ -35,6 +36,7 @@ fn bytes_in<S: Shelf>(
 /// The script in a file.
 pub fn script_in<S: Shelf>(alloc: Global, name: &str, shelf: &mut S) -> Result<Script, Stop>
     ensures read { ReadsInput (S.state shelf.old) (S.state shelf.new) (script_in name.now) result }
+    ensures items { IfOk result (λ script. All IsWithin script.items) }
     ensures same_files { (S.state shelf.new).files ≡ (S.state shelf.old).files }
 {
     let bytes = bytes_in(alloc, FileKind::Script, name, shelf)?;

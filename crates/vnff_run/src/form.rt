@@ -3,11 +3,16 @@
 ghost use Rattle.std.specs.Prelude.{◌≡◌, map, option_map, string_bytes};
 ghost use Rattle.vnff_run.specs.Forms.{form_of, form_view};
 
+use crate::drain_words::place_of;
+use split_queue::Place;
+
 /// What the words ask for. Each file is named as the words name it.
 #[derive(Clone, Copy, Debug)]
 pub enum Form<'a> {
     /// `replay SCRIPT`: run a script's lines in order.
     Replay(&'a str),
+    /// `drain IMAGE SIZE DESC AVAIL USED`: write the chains of the queue at a place in an image of guest memory.
+    Drain(&'a str, Place),
 }
 
 /// The form of the words, which are those behind the program's own name.
@@ -17,6 +22,15 @@ pub fn form_of(words: &[String]) -> Option<Form<'_>>
 {
     match words {
         [form, script] if form.as_str() == "replay" => Some(Form::Replay(script.as_str())),
+        [form, image, size, desc, avail, used] if form.as_str() == "drain" => {
+            let place = place_of(
+                size.as_bytes(),
+                desc.as_bytes(),
+                avail.as_bytes(),
+                used.as_bytes(),
+            )?;
+            Some(Form::Drain(image.as_str(), place))
+        }
         _ => None,
     }
 }

@@ -1,6 +1,6 @@
 //! Scripts, read from their text: line by line, and each line's words from left to right, each once.
 
-ghost use Rattle.std.specs.Prelude.{◌≡◌, ◌<◌, ◌≤◌, ◌^◌, [], length, IfOk, IfSome, MatchResult, OnOk};
+ghost use Rattle.std.specs.Prelude.{◌≡◌, ◌<◌, ◌≤◌, ◌^◌, [], All, length, IfOk, IfSome, MatchResult, OnOk};
 ghost use Rattle.ff_headers.specs.Kinds.{kind_code};
 ghost use Rattle.ff_headers.specs.SelectorParts.{IsWhole};
 ghost use Rattle.vnff_base.specs.Lines.{words_of};
@@ -9,7 +9,7 @@ ghost use Rattle.vnff_run.specs.DeviceFiles.{device_file_of, device_file_of_line
 ghost use Rattle.vnff_run.specs.Grammar.{after_version, at_line, device_in, items_of, script_of, script_of_lines};
 ghost use Rattle.vnff_run.specs.Grammar.{selectors_in, with_selectors};
 ghost use Rattle.vnff_run.specs.Inputs.{file_limit};
-ghost use Rattle.vnff_run.specs.ItemLines.{item_of};
+ghost use Rattle.vnff_run.specs.ItemLines.{IsWithin, item_of};
 ghost use Rattle.vnff_run.specs.Readings.{HasSmallNumbers, IsFaultOf, lines_from};
 ghost use Rattle.vnff_run.specs.ScriptTexts.{script_text};
 ghost use Rattle.vnff_run.specs.SelectLines.{selector_of};
@@ -34,6 +34,8 @@ pub fn read_script(alloc: Global, bytes: &[u8]) -> Result<Script, ScriptFault>
     // The canonical text of a script is read as that script.
     ensures written { (script : SomeScript) → IsSpellable script → bytes.now ≡ script_text script
         → MatchResult result (λ read. read ≡ script) (λ fault. fault ≡ ScriptFault.Memory) }
+    // Its commands, rooms and frames are within their limits.
+    ensures within { IfOk result (λ script. All IsWithin script.items) }
 {
     read_lines(alloc, &mut LineReader::new(bytes))
 }

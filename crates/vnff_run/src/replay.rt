@@ -1,10 +1,11 @@
 //! The form `replay SCRIPT`: the items of a script, in order, and a line for each.
 
-ghost use Rattle.std.specs.Prelude.{◌≡◌, ◌∷◌, [], OnOk};
+ghost use Rattle.std.specs.Prelude.{◌≡◌, ◌∷◌, [], All, OnOk};
 ghost use Rattle.vnff_base.specs.Gatherings.{Gathers};
 ghost use Rattle.vnff_base.specs.Outputs.{Writes};
 ghost use Rattle.vnff_run.specs.Endings.{FormEnds, RunsAs};
 ghost use Rattle.vnff_run.specs.Forms.{Replay};
+ghost use Rattle.vnff_run.specs.ItemLines.{IsCommandWithin, IsWithin};
 ghost use Rattle.vnff_run.specs.Outcomes.{done_outcome, outcome_in};
 ghost use Rattle.vnff_run.specs.Replay.{reply_line, frame_line, item_line, lines_of, replay_text, state_behind};
 ghost use Rattle.ff_headers.specs.Frames.{headers_of};
@@ -13,10 +14,10 @@ ghost use Rattle.cap_table.specs.Steps.{reply_of, next_state};
 
 use crate::file::script_in;
 use crate::script::{AdminLine, Item, Script};
-use crate::steering::Steering;
 use crate::stop::Stop;
 use crate::text::{put_frame_line, put_reply_line};
 use std::alloc::Global;
+use steer::Bench;
 use vnff_base::{Failed, Gathered, Out, Shelf};
 
 /// Replays the script in a file.
@@ -35,86 +36,91 @@ pub fn replay<S: Shelf, O: Out>(
 
 /// Replays a script, on a device of its own.
 fn replay_script<O: Out>(alloc: Global, script: Script, out: &mut O) -> Result<(), Stop>
+    requires { All IsWithin script.items }
     ensures { RunsAs (O.state out.old) (O.state out.new) (done_outcome (replay_text script)) result }
 {
     let Script { caps, start, items } = script;
-    let mut steering = Steering::new(alloc, caps, start)?;
+    let mut bench = Bench::new(alloc, caps, start)?;
     let mut text = Gathered::new(alloc)?;
-    Ok(put_text(&mut steering, items.as_slice(), &mut text, out)?)
+    Ok(put_text(&mut bench, items.as_slice(), &mut text, out)?)
 }
 
 /// Does what the items ask for, in order, and writes the whole text of their lines.
 fn put_text<O: Out>(
-    steering: &mut Steering,
+    bench: &mut Bench,
     items: &[Item],
     text: &mut Gathered,
     out: &mut O,
 ) -> Result<(), Failed>
-    requires { text.old ≡ [] }
-    ensures { Writes (O.state out.old) (O.state out.new) (lines_of steering.old items.now) result }
+    requires within { All IsWithin items.now }
+    requires none { text.old ≡ [] }
+    ensures { Writes (O.state out.old) (O.state out.new) (lines_of bench.old.device items.now) result }
 {
-    put_items(steering, items, text, out)?;
+    put_items(bench, items, text, out)?;
     text.finish(out)
 }
 
 /// Does what the items ask for, in order, and writes a line for each.
 fn put_items<O: Out>(
-    steering: &mut Steering,
+    bench: &mut Bench,
     items: &[Item],
     text: &mut Gathered,
     out: &mut O,
 ) -> Result<(), Failed>
+    requires { All IsWithin items.now }
     ensures lines { Gathers (O.state out.old) (O.state out.new) text.old text.new
-        (lines_of steering.old items.now) result }
-    ensures state { OnOk result (steering.new ≡ state_behind steering.old items.now) }
+        (lines_of bench.old.device items.now) result }
+    ensures state { OnOk result (bench.new.device ≡ state_behind bench.old.device items.now) }
 {
     for item in items {
-        put_item(steering, item, text, out)?;
+        put_item(bench, item, text, out)?;
     }
     Ok(())
 }
 
 /// Does what an item asks for, and writes its line.
 fn put_item<O: Out>(
-    steering: &mut Steering,
+    bench: &mut Bench,
     item: &Item,
     text: &mut Gathered,
     out: &mut O,
 ) -> Result<(), Failed>
+    requires { IsWithin item.now }
     ensures line { Gathers (O.state out.old) (O.state out.new) text.old text.new
-        (item_line steering.old item.now) result }
-    ensures state { steering.new ≡ state_behind steering.old (item.now ∷ []) }
+        (item_line bench.old.device item.now) result }
+    ensures state { bench.new.device ≡ state_behind bench.old.device (item.now ∷ []) }
 {
     match item {
-        Item::Admin(line) => put_command(steering, line, text, out),
-        Item::Frame(frame) => put_frame(steering, frame.as_slice(), text, out),
+        Item::Admin(line) => put_command(bench, line, text, out),
+        Item::Frame(frame) => put_frame(bench, frame.as_slice(), text, out),
     }
 }
 
-/// Carries a command out, and writes the line of its reply.
+/// Sends a command through the bench's ring, and writes the line of its reply.
 fn put_command<O: Out>(
-    steering: &mut Steering,
+    bench: &mut Bench,
     line: &AdminLine,
     text: &mut Gathered,
     out: &mut O,
 ) -> Result<(), Failed>
+    requires { IsCommandWithin line.now }
     ensures line { Gathers (O.state out.old) (O.state out.new) text.old text.new
-        (reply_line (reply_of steering.old line.now.bytes line.now.room)) result }
-    ensures state { steering.new ≡ next_state steering.old line.now.bytes line.now.room }
+        (reply_line (reply_of bench.old.device line.now.bytes line.now.room)) result }
+    ensures state { bench.new.device ≡ next_state bench.old.device line.now.bytes line.now.room }
 {
-    let reply = steering.admin(line.bytes.as_slice(), line.room);
+    let reply = bench.admin(line.bytes.as_slice(), line.room);
     put_reply_line(text, out, reply.as_slice())
 }
 
 /// Writes the line of a frame.
 fn put_frame<O: Out>(
-    steering: &Steering,
+    bench: &Bench,
     frame: &[u8],
     text: &mut Gathered,
     out: &mut O,
 ) -> Result<(), Failed>
     ensures { Gathers (O.state out.old) (O.state out.new) text.old text.new
-        (frame_line (action_of steering.now.objects (headers_of frame.now))) result }
+        (frame_line (action_of bench.now.device.objects (headers_of frame.now))) result }
 {
-    put_frame_line(text, out, steering.frame(frame))
+    put_frame_line(text, out, bench.frame(frame))
 }

@@ -5,6 +5,7 @@ ghost use Rattle.vnff_run.specs.declared.stop.Stop.TheVariants as stops;
 ghost use Rattle.vnff_run.specs.Endings.{script_stop};
 
 use crate::script::{Reason, ScriptFault};
+use split_queue::SetupErr;
 use std::alloc::AllocError;
 use vnff_base::Failed;
 
@@ -13,6 +14,8 @@ use vnff_base::Failed;
 pub enum FileKind {
     /// A script.
     Script,
+    /// An image of guest memory.
+    Image,
 }
 
 /// An input that is refused, and why.
@@ -22,6 +25,8 @@ pub enum RefusedInput {
     TooLong(FileKind),
     /// A file is no script: the line, and the reason.
     BadScript(u32, Reason),
+    /// No queue can lie in an image where the words say.
+    BadImage(SetupErr),
 }
 
 /// Why a form ended early.
@@ -31,6 +36,8 @@ pub enum Stop {
     ReadFault,
     /// An input is refused. The line that says so is still to be written.
     Refused(RefusedInput),
+    /// An input is refused for a fault behind what was written. The line that says so is written too.
+    AlreadyRefused,
     /// A write failed.
     WriteFault,
     /// Memory ran out.

@@ -8,8 +8,12 @@ use ff_headers::Action;
 use itoa::Buffer;
 use vnff_base::{Failed, Gathered, Out, hex_gather};
 
-/// Writes a queue's number.
-fn put_number<O: Out>(text: &mut Gathered, out: &mut O, number: u16) -> Result<(), Failed>
+/// Writes a number.
+pub(crate) fn put_number<O: Out>(
+    text: &mut Gathered,
+    out: &mut O,
+    number: u64,
+) -> Result<(), Failed>
     ensures { Gathers (O.state out.old) (O.state out.new) text.old text.new (decimal number) result }
 {
     let mut buffer = Buffer::new();
@@ -26,7 +30,7 @@ fn put_action<O: Out>(text: &mut Gathered, out: &mut O, action: Action) -> Resul
         Action::Drop => text.put(out, b"drop"),
         Action::Queue(queue) => {
             text.put(out, b"queue ")?;
-            put_number(text, out, queue)
+            put_number(text, out, queue as u64)
         }
     }
 }

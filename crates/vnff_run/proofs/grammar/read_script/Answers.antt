@@ -1,4 +1,5 @@
 use Rattle.vnff_run.proofs.GrammarLemmas.{small_lines}
+use Rattle.vnff_run.proofs.ItemBounds.{read_within}
 use Rattle.vnff_run.proofs.WrittenScripts.{written_script}
 use Rattle.vnff_run.proofs.grammar.read_script.Goals as goal
 
@@ -7,3 +8,6 @@ read_lines-requires c = small_lines c.args.bytes.now c.new.result c.requires c.n
 
 pub returns-clause-written : goal.returns-clause-written
 returns-clause-written c = written_script c.args.bytes.now c.new.result c.read_lines.result c.new.ensures c.read_lines.ensures
+
+pub returns-clause-within : goal.returns-clause-within
+returns-clause-within c = read_within c.read_lines.result _ _ c.read_lines.ensures

@@ -1,0 +1,121 @@
+-- What a text spells is within the limits of the grammar: the bytes of its commands, their rooms, and its frames.
+use Rattle.std.proofs.Common.{◌≡◌, ◌≢◌, ℕ, ◌≤◌, Bool, true, false, List, [], ◌∷◌, codes, length, Option, Some, None, Result, Ok, Err, refl, subst}
+use Rattle.std.specs.Prelude.{IfOk, MatchResult, ◌&&◌, if◌then◌else◌, nat_le, option_and_then}
+use Rattle.std.specs.List.{All}
+use Rattle.std.specs.Option.{ok_or}
+use Rattle.std.proofs.lemmas.Bool.{and_parts, leb-true}
+use Rattle.std.proofs.lemmas.List.Elements.{All-nil, All-cons}
+use Rattle.std.specs.Str.{bytes_eq}
+use Rattle.vnff_base.specs.Hex.{hex_bytes}
+use Rattle.vnff_base.specs.Lines.{NumberedLine}
+use Rattle.vnff_base.specs.Numbers.{number_of}
+use Rattle.vnff_run.specs.Grammar.{after_version, at_line, device_in, items_of, script_of_lines, selectors_in, with_selectors}
+use Rattle.vnff_run.specs.ItemLines.{IsWithin, admin_of, frame_of, item_of, most_command, most_frame, most_room}
+use Rattle.vnff_run.specs.Readings.{IsFaultOf}
+use Rattle.vnff_run.specs.Results.{◌>>=◌}
+use Rattle.vnff_run.specs.Words.{bytes_within, if_within, number_within}
+use Rattle.vnff_run.specs.declared.script.Item.{Item}
+use Rattle.vnff_run.specs.declared.script.Item.TheVariants.{Admin, Frame}
+use Rattle.vnff_run.specs.declared.script.Reason.{Reason}
+use Rattle.vnff_run.specs.declared.script.Reason.TheVariants.{Hex, Room, Word}
+use Rattle.vnff_run.specs.declared.script.Script.{Script}
+use Rattle.vnff_run.specs.declared.script.ScriptFault.{ScriptFault}
+
+-- what steps give that are all done
+both_done : {A B E : Type 0} (first : Result A E) (next : A → Result B E) (value : B) → (first >>= next) ≡ Ok value → (part : A) × (first ≡ Ok part) × (next part ≡ Ok value)
+both_done (Ok part) next value is = (part, refl, is)
+both_done (Err fault) next value is = absurd (cc)
+
+there : {A E : Type 0} (found : Option A) (fault : E) (value : A) → ok_or found fault ≡ Ok value → found ≡ Some value
+there (Some x) fault value is = cc
+there None fault value is = absurd (cc)
+
+found_then : {A B : Type 0} (found : Option A) (next : A → Option B) (value : B) → option_and_then next found ≡ Some value → (part : A) × (found ≡ Some part) × (next part ≡ Some value)
+found_then (Some part) next value is = (part, refl, is)
+found_then None next value is = absurd (cc)
+
+passed : {A : Type 0} (test : Bool) (x value : A) → (if test then Some x else None) ≡ Some value → (test ≡ true) × (x ≡ value)
+passed true x value is = (refl, cc)
+passed false x value is = absurd (cc)
+
+-- a number that a word spells
+number_bounds : (reason : Reason) (low high : ℕ) (word : List ℕ) (n : ℕ) → number_within reason low high word ≡ Ok n → (low ≤ n) × (n ≤ high)
+unfolding number_within
+number_bounds reason low high word n is =
+    let found = found_then (number_of word) (λ m. if nat_le low m && nat_le m high then Some m else None) n (there _ reason n is) in
+    let test = passed (nat_le low found.0 && nat_le found.0 high) found.0 n found.2 in
+    let parts = and_parts _ _ test.0 in
+    subst (λ m. (low ≤ m) × (m ≤ high)) test.1 (leb-true low found.0 parts.0, leb-true found.0 high parts.1)
+
+-- bytes that a word spells
+bytes_bounds : (reason : Reason) (low high : ℕ) (word bytes : List ℕ) → bytes_within reason low high word ≡ Ok bytes → (low ≤ length bytes) × (length bytes ≤ high)
+unfolding bytes_within
+bytes_bounds reason low high word bytes is =
+    let found = found_then (hex_bytes word) (if_within low high) bytes (there _ reason bytes is) in
+    let test = passed (nat_le low (length found.0) && nat_le (length found.0) high) found.0 bytes found.2 in
+    let parts = and_parts _ _ test.0 in
+    subst (λ b. (low ≤ length b) × (length b ≤ high)) test.1 (leb-true low _ parts.0, leb-true _ high parts.1)
+
+admin_within : (words : List (List ℕ)) (item : Item) → admin_of words ≡ Ok item → IsWithin item
+unfolding admin_of
+admin_within [] item is = absurd (cc)
+admin_within (hex ∷ []) item is = absurd (cc)
+admin_within (hex ∷ room ∷ []) item is =
+    let bytes = both_done (bytes_within Hex 1 most_command hex) _ item is in
+    let number = both_done (number_within Room 0 most_room room) _ item bytes.2 in
+    let command = bytes_bounds Hex 1 most_command hex bytes.0 bytes.1 in
+    let space = number_bounds Room 0 most_room room number.0 number.1 in
+    let same : Admin (record { bytes = bytes.0; room = number.0 }) ≡ item = cc in
+    subst IsWithin same (record { some = command.0; most = command.1; room = space.1 })
+admin_within (hex ∷ room ∷ more ∷ words) item is = absurd (cc)
+
+frame_within : (words : List (List ℕ)) (item : Item) → frame_of words ≡ Ok item → IsWithin item
+unfolding frame_of
+frame_within [] item is = absurd (cc)
+frame_within (hex ∷ []) item is =
+    let bytes = both_done (bytes_within Hex 0 most_frame hex) _ item is in
+    let same : Frame bytes.0 ≡ item = cc in
+    subst IsWithin same (bytes_bounds Hex 0 most_frame hex bytes.0 bytes.1).1
+frame_within (hex ∷ more ∷ words) item is = absurd (cc)
+
+either_within : (first second : Bool) (admin frame fault : Result Item Reason) (item : Item) → (admin ≡ Ok item → IsWithin item) → (frame ≡ Ok item → IsWithin item) → fault ≢ Ok item → (if first then admin else if second then frame else fault) ≡ Ok item → IsWithin item
+either_within true second admin frame fault item one other none is = one is
+either_within false true admin frame fault item one other none is = other is
+either_within false false admin frame fault item one other none is = absurd (none is)
+
+item_within : (words : List (List ℕ)) (item : Item) → item_of words ≡ Ok item → IsWithin item
+unfolding item_of
+item_within [] item is = absurd (cc)
+item_within (name ∷ words) item is =
+    either_within (bytes_eq name (codes "admin")) (bytes_eq name (codes "frame")) (admin_of words) (frame_of words) (Err Word) item (admin_within words item) (frame_within words item) (λ e. absurd (cc)) is
+
+at_line-ok : {A : Type 0} (number : ℕ) (spelled : Result A Reason) (value : A) → at_line number spelled ≡ Ok value → spelled ≡ Ok value
+at_line-ok number (Ok x) value is = cc
+at_line-ok number (Err reason) value is = absurd (cc)
+
+items_within : (lines : List NumberedLine) (items : List Item) → items_of lines ≡ Ok items → All IsWithin items
+unfolding items_of
+items_within [] items is =
+    let same : [] ≡ items = cc in
+    subst (All IsWithin) same (All-nil IsWithin)
+items_within (line ∷ lines) items is =
+    let first = both_done (at_line line.number (item_of line.words)) _ items is in
+    let more = both_done (items_of lines) _ items first.2 in
+    let same : first.0 ∷ more.0 ≡ items = cc in
+    subst (All IsWithin) same (All-cons IsWithin first.0 more.0 (item_within line.words first.0 (at_line-ok line.number _ first.0 first.1)) (items_within lines more.0 more.1))
+
+-- the items of a script that lines spell
+script_within : (missing : ℕ) (lines : List NumberedLine) (script : Script) → script_of_lines missing lines ≡ Ok script → All IsWithin script.items
+unfolding script_of_lines
+script_within missing lines script is =
+    let behind = both_done (after_version missing lines) _ script is in
+    let device = both_done (device_in missing behind.0) _ script behind.2 in
+    let selected = both_done (selectors_in 0 device.0.1) _ script device.2 in
+    let items = both_done (items_of selected.0.1) _ script selected.2 in
+    let same : record { caps = with_selectors device.0.0.caps selected.0.0; start = device.0.0.start; items = items.0 } ≡ script = cc in
+    subst (λ (s : Script). All IsWithin s.items) same (items_within selected.0.1 items.0 items.1)
+
+-- and of what a reader of lines gives
+pub read_within : (read : Result Script ScriptFault) (missing : ℕ) (lines : List NumberedLine) → MatchResult read (λ script. script_of_lines missing lines ≡ Ok script) (IsFaultOf (script_of_lines missing lines)) → IfOk read (λ script. All IsWithin script.items)
+read_within (Ok script) missing lines is = script_within missing lines script is
+read_within (Err fault) missing lines is = tt

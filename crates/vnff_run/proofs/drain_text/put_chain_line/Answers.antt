@@ -1,0 +1,38 @@
+use Rattle.vnff_base.proofs.Gathering.{gathers_after, gathers_lost, lost_before}
+use Rattle.vnff_run.specs.Drain.{chain_line}
+use Rattle.vnff_run.proofs.drain_text.put_chain_line.Goals as goal
+
+pub returns-in_err-put : goal.returns-in_err-put
+unfolding chain_line
+returns-in_err-put g c =
+    gathers_lost _ _ _ c.from_residual.ensures.1 (lost_before c.in_err-put.ensures _)
+
+pub returns-in_err-put_number : goal.returns-in_err-put_number
+unfolding chain_line
+returns-in_err-put_number g c =
+    gathers_after _ _ _ _ c.in_ok-put.ensures (gathers_lost _ _ _ c.from_residual-in_err-put_number.ensures.1 (lost_before c.in_err-put_number.ensures _))
+
+pub returns-in_err-put-2 : goal.returns-in_err-put-2
+unfolding chain_line
+returns-in_err-put-2 g c =
+    gathers_after _ _ _ _ c.in_ok-put.ensures (gathers_after _ _ _ _ c.in_ok-put_number.ensures (gathers_lost _ _ _ c.from_residual-in_err-put-2.ensures.1 (lost_before c.in_err-put-2.ensures _)))
+
+pub returns-in_err-hex_gather : goal.returns-in_err-hex_gather
+unfolding chain_line
+returns-in_err-hex_gather g c =
+    rw (← c.as_slice.ensures.value) (gathers_after _ _ _ _ c.in_ok-put.ensures (gathers_after _ _ _ _ c.in_ok-put_number.ensures (gathers_after _ _ _ _ c.in_ok-put-2.ensures (gathers_lost _ _ _ c.from_residual-in_err-hex_gather.ensures.1 (lost_before c.in_err-hex_gather.ensures _)))))
+
+pub returns-in_err-put-3 : goal.returns-in_err-put-3
+unfolding chain_line
+returns-in_err-put-3 g c =
+    rw (← c.as_slice.ensures.value) (gathers_after _ _ _ _ c.in_ok-put.ensures (gathers_after _ _ _ _ c.in_ok-put_number.ensures (gathers_after _ _ _ _ c.in_ok-put-2.ensures (gathers_after _ _ _ _ c.in_ok-hex_gather.ensures (gathers_lost _ _ _ c.from_residual-in_err-put-3.ensures.1 (lost_before c.in_err-put-3.ensures _))))))
+
+pub returns-in_err-put_number-2 : goal.returns-in_err-put_number-2
+unfolding chain_line
+returns-in_err-put_number-2 g c =
+    rw (← c.as_slice.ensures.value, ← c.room.ensures) (gathers_after _ _ _ _ c.in_ok-put.ensures (gathers_after _ _ _ _ c.in_ok-put_number.ensures (gathers_after _ _ _ _ c.in_ok-put-2.ensures (gathers_after _ _ _ _ c.in_ok-hex_gather.ensures (gathers_after _ _ _ _ c.in_ok-put-3.ensures (gathers_lost _ _ _ c.from_residual-in_err-put_number-2.ensures.1 (lost_before c.in_err-put_number-2.ensures _)))))))
+
+pub returns : goal.returns
+unfolding chain_line
+returns g c =
+    rw (← c.as_slice.ensures.value, ← c.room.ensures) (gathers_after _ _ _ _ c.in_ok-put.ensures (gathers_after _ _ _ _ c.in_ok-put_number.ensures (gathers_after _ _ _ _ c.in_ok-put-2.ensures (gathers_after _ _ _ _ c.in_ok-hex_gather.ensures (gathers_after _ _ _ _ c.in_ok-put-3.ensures (gathers_after _ _ _ _ c.in_ok-put_number-2.ensures c.put-4.ensures))))))

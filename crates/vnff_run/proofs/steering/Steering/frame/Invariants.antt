@@ -1,5 +1,0 @@
--- The steps of the search are counted in a ledger of their own.
-use Rattle.vnff_run.proofs.steering.Steering.frame.Given as goal
-
-abbrev pub ghosts-found : goal.ghosts-found
-ghosts-found a = record { name = a.blank.name; parts = a.blank.parts }

@@ -1,0 +1,110 @@
+-- What a drain of a split virtqueue finds in an image of guest memory, and what it writes. This project's own; what a
+-- chain is, and which faults there are, comes from split_queue.
+use Rattle.std.specs.Prelude.{ℕ, zero, suc, ◌-◌, nat_lt, if◌then◌else◌, List, [], ◌∷◌, ◌++◌, codes, decimal, Result, Ok, Err}
+use Rattle.vnff_base.specs.Hex.{hex_text}
+use Rattle.split_queue.specs.Chains.{room_of}
+use Rattle.split_queue.specs.DeviceEnds.{chain_in_slot}
+use Rattle.split_queue.specs.Rings.{index_after, available_idx, available_head, with_used_entry}
+use Rattle.split_queue.specs.declared.chain.Chain.{Chain}
+use Rattle.split_queue.specs.declared.queue_place.Place.{Place}
+use Rattle.split_queue.specs.declared.ring_err.RingErr.{RingErr}
+use Rattle.split_queue.specs.declared.ring_err.RingErr.TheVariants as faults
+use Rattle.split_queue.specs.declared.setup.SetupErr.{SetupErr}
+use Rattle.split_queue.specs.declared.setup.SetupErr.TheVariants as setup
+use Rattle.vnff_run.specs.Replay.{line_feed}
+use Rattle.vnff_run.specs.declared.drain.Last.{Last}
+use Rattle.vnff_run.specs.declared.drain.Last.TheVariants.{Empty, Faulty}
+
+-- ---- what is found
+
+-- the memory after the chain in the slot of an index went back as used, with length 0
+abbrev pub with_chain_back : List ℕ → Place → ℕ → List ℕ
+with_chain_back mem place index = with_used_entry mem place index (available_head mem place index) 0
+
+-- so many chains from an index on, or their faults: each is read in the memory that the ones before it left
+abbrev pub chains_from : List ℕ → Place → ℕ → ℕ → List (Result Chain RingErr)
+chains_from mem place index zero = []
+chains_from mem place index (suc more) =
+    chain_in_slot mem place index ∷ chains_from (with_chain_back mem place index) place (index_after index) more
+
+-- the chains from an index to the available one, unless that is more than the size
+unfoldable pub chains_behind : List ℕ → Place → ℕ → List (Result Chain RingErr)
+chains_behind mem place index =
+    let idx = available_idx mem place in
+    if nat_lt place.size idx then Err (faults.IdxJump idx) ∷ [] else chains_from mem place index (idx - index)
+
+-- what an image has, from index 0 on
+abbrev pub drained : List ℕ → Place → List (Result Chain RingErr)
+drained image place = chains_behind image place 0
+
+-- what stands behind chains: the first fault among them, or else the index at which the ring stands empty
+abbrev pub last_of : ℕ → List (Result Chain RingErr) → Last
+last_of index [] = Empty index
+last_of index (Ok _ ∷ more) = last_of index more
+last_of index (Err fault ∷ _) = Faulty fault
+
+-- how the drain of an image ends
+abbrev pub drain_last : List ℕ → Place → Last
+drain_last image place = last_of (available_idx image place) (drained image place)
+
+-- ---- what is written
+
+-- `chain HEAD HEX ROOM`: the readable bytes in hexadecimal or `-`, and how many bytes may be written
+unfoldable pub chain_line : Chain → List ℕ
+chain_line chain =
+    codes "chain " ++ (decimal chain.head ++ (codes " " ++ (hex_text chain.readable.items ++ (codes " "
+    ++ (decimal (room_of chain.writable.items) ++ line_feed)))))
+
+-- `end NEXT`
+unfoldable pub end_line : ℕ → List ℕ
+end_line index = codes "end " ++ (decimal index ++ line_feed)
+
+-- the number of a fault, and its name
+abbrev pub fault_number : RingErr → ℕ
+fault_number (faults.IdxJump idx) = idx
+fault_number (faults.BadHead head) = head
+fault_number (faults.Indirect number) = number
+fault_number (faults.Order number) = number
+fault_number (faults.Outside number) = number
+fault_number (faults.TooLong number) = number
+fault_number (faults.BadNext number) = number
+fault_number (faults.Loop number) = number
+fault_number (faults.TooMany number) = number
+
+abbrev pub fault_word : RingErr → List ℕ
+fault_word (faults.IdxJump _) = codes "idxjump"
+fault_word (faults.BadHead _) = codes "badhead"
+fault_word (faults.Indirect _) = codes "indirect"
+fault_word (faults.Order _) = codes "order"
+fault_word (faults.Outside _) = codes "outside"
+fault_word (faults.TooLong _) = codes "toolong"
+fault_word (faults.BadNext _) = codes "badnext"
+fault_word (faults.Loop _) = codes "loop"
+fault_word (faults.TooMany _) = codes "toomany"
+
+-- `refused image:NUMBER REASON`
+unfoldable pub ring_fault_line : RingErr → List ℕ
+ring_fault_line fault =
+    codes "refused image:" ++ (decimal (fault_number fault) ++ (codes " " ++ (fault_word fault ++ line_feed)))
+
+-- the lines of the chains before the first fault
+abbrev pub chain_lines : List (Result Chain RingErr) → List ℕ
+chain_lines [] = []
+chain_lines (Ok chain ∷ more) = chain_line chain ++ chain_lines more
+chain_lines (Err _ ∷ _) = []
+
+-- the line behind them
+abbrev pub last_line : Last → List ℕ
+last_line (Empty index) = end_line index
+last_line (Faulty fault) = ring_fault_line fault
+
+-- what the drain of an image writes
+unfoldable pub drain_text : List ℕ → Place → List ℕ
+drain_text image place = chain_lines (drained image place) ++ last_line (drain_last image place)
+
+-- why no queue lies at a place, in a refusal's line. The words of the program give no other size than a queue's.
+abbrev pub setup_word : SetupErr → List ℕ
+setup_word setup.Size = codes "size"
+setup_word setup.Align = codes "align"
+setup_word setup.Area = codes "area"
+setup_word setup.Overlap = codes "overlap"
