@@ -7,7 +7,7 @@ use Rattle.std.specs.List.{list_any, position_from, position_or_len}
 use Rattle.std.specs.Ordering.{nat_cmp}
 use Rattle.std.proofs.lemmas.Bool.Decides.{Decides-eqb}
 use Rattle.std.proofs.lemmas.Cmp.{nat_list_eq_equiv}
-use Rattle.std.proofs.lemmas.List.{append-nil, append_assoc, length-append, length-map, take_all, take_more}
+use Rattle.std.proofs.lemmas.List.{append-nil, append_assoc, get_or-map, length-append, length-map, take_all, take_more}
 use Rattle.std.proofs.lemmas.List.Concat.{flat_map-append}
 use Rattle.std.proofs.lemmas.List.Elements.{filter-append, filter_agree}
 use Rattle.std.proofs.lemmas.Map.Text.{is_eq-slice_cmp}
@@ -18,8 +18,6 @@ use Rattle.ff_headers.specs.SelectorParts.{IsWhole, SelectorParts}
 use Rattle.ff_headers.specs.Shapes.{codes_of}
 use Rattle.ff_headers.specs.declared.kind.Kind.{Kind}
 use Rattle.ff_headers.specs.declared.kind.Kind.TheVariants.{Eth, Ipv4, Ipv6, Tcp, Udp}
-use Rattle.ntuple_text.specs.declared.spec.Flow.{Flow}
-use Rattle.ntuple_text.specs.declared.spec.Flow.TheVariants.{Ether, Ip4, Tcp4, Udp4, Ip6, Tcp6, Udp6}
 use Rattle.ntuple_text.specs.declared.spec.Spec.{Spec}
 use Rattle.ntuple_compile.specs.Compiled.{Shape, same_masks, same_shape, shape_number, shapes_of}
 use Rattle.ntuple_compile.specs.Selected.{mask_for, selector_of_mask, selectors_of}
@@ -86,19 +84,6 @@ spec_whole spec = selected_whole spec (kinds_of spec.flow)
 
 pub same_spec : (a b : Spec) → same_shape (selectors_of a) (selectors_of b) ≡ bytes_eq (spec_bytes a) (spec_bytes b)
 same_spec a b = same_shape-bytes (selectors_of a) (selectors_of b) (spec_whole a) (spec_whole b)
-
-few_kinds : (flow : Flow) → length (kinds_of flow) ≤ 2
-few_kinds Ether = omega arith
-few_kinds Ip4 = omega arith
-few_kinds Tcp4 = omega arith
-few_kinds Udp4 = omega arith
-few_kinds Ip6 = omega arith
-few_kinds Tcp6 = omega arith
-few_kinds Udp6 = omega arith
-
-pub few_selectors : (spec : Spec) → length (selectors_of spec) ≤ 2
-unfolding selectors_of
-few_selectors spec = omega (arith, few_kinds spec.flow, length-map (kinds_of spec.flow) (λ kind. selector_of_mask kind (mask_for spec kind)))
 
 -- ---- first uses
 
@@ -258,10 +243,29 @@ shapes_of_all specs firsts i past is =
 
 -- ---- one selector more
 
-pub shape_bytes_more : (shape : Shape) (i : ℕ) (s : SelectorParts) → i < length shape → s ≡ get_or shape i s → shape_bytes (take (i + 1) shape) ≡ (shape_bytes (take i shape) ++ kind_code s.kind ∷ []) ++ s.mask
+shape_bytes_more : (shape : Shape) (i : ℕ) (s : SelectorParts) → i < length shape → s ≡ get_or shape i s → shape_bytes (take (i + 1) shape) ≡ (shape_bytes (take i shape) ++ kind_code s.kind ∷ []) ++ s.mask
 unfolding shape_bytes
 shape_bytes_more shape i s inside is =
     ap shape_bytes (take_more shape i s inside ∙ ap (λ t. take i shape ++ t ∷ []) (sym is)) ∙ flat_map-append (λ t. kind_code t.kind ∷ t.mask) (take i shape) (s ∷ []) ∙ ap (λ t. shape_bytes (take i shape) ++ kind_code s.kind ∷ t) (append-nil s.mask) ∙ sym (append_assoc (shape_bytes (take i shape)) (kind_code s.kind ∷ []) s.mask)
+
+-- the bytes of one header more
+pub bytes_more : (spec : Spec) (i : ℕ) (d : Kind) → i < length (kinds_of spec.flow) → let kind = get_or (kinds_of spec.flow) i d in shape_bytes (take (i + 1) (selectors_of spec)) ≡ (shape_bytes (take i (selectors_of spec)) ++ kind_code kind ∷ []) ++ mask_for spec kind
+unfolding selectors_of
+bytes_more spec i d inside =
+    let kinds = kinds_of spec.flow in
+    let f : Kind → SelectorParts = λ kind. selector_of_mask kind (mask_for spec kind) in
+    let s = f (get_or kinds i d) in
+    shape_bytes_more (map f kinds) i s (omega (arith, inside, length-map kinds f)) (sym (get_or-map f kinds i d s inside))
+
+pub bytes_none : (spec : Spec) → shape_bytes (take 0 (selectors_of spec)) ≡ []
+unfolding shape_bytes
+bytes_none spec = refl
+
+pub bytes_all : (spec : Spec) (i : ℕ) → length (kinds_of spec.flow) ≤ i → shape_bytes (take i (selectors_of spec)) ≡ spec_bytes spec
+unfolding selectors_of
+bytes_all spec i past =
+    let f : Kind → SelectorParts = λ kind. selector_of_mask kind (mask_for spec kind) in
+    ap shape_bytes (take_all i (map f (kinds_of spec.flow)) (omega (arith, past, length-map (kinds_of spec.flow) f)))
 
 pub few_bytes : (kind : Kind) → kind_size kind ≤ 40
 few_bytes Eth = omega arith

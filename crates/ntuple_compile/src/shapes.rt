@@ -8,14 +8,13 @@ ghost use Rattle.ntuple_compile.specs.Compiled.{shape_number, shapes_of};
 ghost use Rattle.ntuple_compile.specs.Selected.{AreGiven, selectors_of};
 ghost use Rattle.ntuple_compile.specs.ShapeBytes.{IsNumbered, first_uses, number_under, shape_bytes, with_use};
 
-use crate::selected::selectors_of;
+use crate::selected::{kinds_of, mask_for};
 use arrayvec::ArrayVec;
-use ff_headers::Selector;
 use ntuple_text::Spec;
 use std::alloc::{AllocError, Global};
 use std::collections::BTreeMap;
 
-/// The type bytes and masks of at most two selectors, whose masks have at most 40 bytes each.
+/// The type bytes and masks of at most two headers, whose masks have at most 40 bytes each.
 type ShapeBytes = ArrayVec<u8, 82>;
 
 /// The shapes of specs, numbered in the order of their first use.
@@ -81,23 +80,16 @@ impl Shapes {
     }
 }
 
-/// The bytes of a spec's shape.
+/// The bytes of a spec's shape: the type byte and the mask of each header that its flow names.
 fn bytes_for(spec: &Spec) -> ShapeBytes
     requires { AreGiven spec.now }
     ensures { result.items ≡ shape_bytes (selectors_of spec.now) }
 {
-    shape_bytes(selectors_of(spec).as_slice())
-}
-
-/// The type byte and the mask of each selector, joined.
-fn shape_bytes(shape: &[Selector]) -> ShapeBytes
-    requires { length shape.now ≤ 2 }
-    ensures { result.items ≡ shape_bytes shape.now }
-{
     let mut bytes = ArrayVec::new();
-    for selector in shape {
-        bytes.push(selector.kind().code());
-        bytes.try_extend_from_slice(selector.mask()).unwrap();
+    for kind in kinds_of(spec.flow) {
+        bytes.push(kind.code());
+        let mask = mask_for(spec, *kind);
+        bytes.try_extend_from_slice(mask.as_slice()).unwrap();
     }
     bytes
 }
