@@ -5,15 +5,17 @@
 //! classifiers and rules, which administration commands create (Virtio 1.4 draft, flow filters). Which objects stand
 //! for a table, their numbers, and the refusals are this project's own.
 //!
-//! So far the crate has the selectors and the key of a spec (`selected`, which writes headers field by field in
-//! `header`), and the definitions of the rest, in specs/: `HeaderFields` and `SpecFits` (when a frame fits a spec, and
-//! what a table does with it: fields as numbers, with no selector, key or mask of bytes), `Selected` (the selectors and
-//! the key of a spec), `Written` (numbers that are written bit by bit), `Compiled` (the objects and commands of a
-//! table, and the refusals) and `Acceptance` (when commands can be written, when a device obeys them, and when it acts
-//! as a table). It promises in `laws` that a given field agrees with a frame's bit by bit, that the least location
-//! decides, that a frame matches the selectors and the key of a spec exactly where it fits the spec, that each command
-//! of a compiled table has bytes, that a device which starts ready answers each with OK, and that after them it does
-//! with every frame what the table does.
+//! It promises that [`compile`] gives the commands of a table, or exactly the first reason why the device can't have
+//! them; that each command has bytes; that a device which starts ready answers each with OK; and that after them it
+//! does with every frame what the table does. In `laws` it promises that a given field agrees with a frame's bit by bit,
+//! that the least location decides, and that a frame matches the selectors and the key of a spec exactly where it fits
+//! the spec, if a line can spell that one.
+//!
+//! Definitions, in specs/: `HeaderFields` and `SpecFits` (when a frame fits a spec, and what a table does with it:
+//! fields as numbers, with no selector, key or mask of bytes), `Selected` (the selectors and the key of a spec),
+//! `Compiled` (the objects and commands of a table, and the refusals) and `Acceptance` (when commands can be written,
+//! when a device obeys them, and when it acts as a table). How the code goes about it: `Written` (numbers that are
+//! written bit by bit) and `ShapeBytes` (bytes by which the classifier of a spec is found).
 //!
 //! Worked examples stand in `proofs/CompileExamples.antt`.
 #![tactic(auto)]

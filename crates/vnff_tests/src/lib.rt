@@ -8,6 +8,8 @@ mod capabilities;
 #[cfg(test)]
 mod commands;
 #[cfg(test)]
+mod compiled;
+#[cfg(test)]
 mod device;
 #[cfg(test)]
 mod headers;
