@@ -21,7 +21,7 @@ use Rattle.ff_headers.specs.declared.kind.Kind.TheVariants.{Eth, Ipv4, Ipv6, Tcp
 use Rattle.ntuple_text.specs.declared.spec.Spec.{Spec}
 use Rattle.ntuple_compile.specs.Compiled.{Shape, same_masks, same_shape, shape_number, shapes_of}
 use Rattle.ntuple_compile.specs.Selected.{mask_for, selector_of_mask, selectors_of}
-use Rattle.ntuple_compile.specs.ShapeBytes.{IsNumbered, first_uses, number_under, shape_bytes, spec_bytes, with_use}
+use Rattle.ntuple_compile.specs.ShapeBytes.{IsNumbered, number_under, shape_bytes, spec_bytes, with_use}
 use Rattle.ntuple_compile.specs.SpecFits.{kinds_of}
 use Rattle.ntuple_compile.proofs.Bridge.{length-mask}
 
@@ -86,6 +86,12 @@ pub same_spec : (a b : Spec) → same_shape (selectors_of a) (selectors_of b) �
 same_spec a b = same_shape-bytes (selectors_of a) (selectors_of b) (spec_whole a) (spec_whole b)
 
 -- ---- first uses
+
+-- the specs whose shape no spec before them has
+unfoldable pub first_uses : List Spec → List Spec
+first_uses [] = []
+first_uses (spec ∷ specs) =
+    spec ∷ filter (λ other. not (bytes_eq (spec_bytes spec) (spec_bytes other))) (first_uses specs)
 
 -- a spec whose shape another one has
 abbrev differs : Spec → Spec → Bool

@@ -1,5 +1,5 @@
--- Bytes that tell the shapes of specs apart, and which specs have a new one. This project's own.
-use Rattle.std.specs.Prelude.{◌≡◌, ℕ, not, if◌then◌else◌, List, [], ◌∷◌, ◌++◌, Option, All, bytes_eq, filter, flat_map}
+-- Bytes that tell the shapes of specs apart, and the numbers that they lead to. This project's own.
+use Rattle.std.specs.Prelude.{◌≡◌, ℕ, if◌then◌else◌, List, [], ◌∷◌, ◌++◌, Option, All, bytes_eq, flat_map}
 use Rattle.std.specs.BTreeMap.{BTreeMap, get_by}
 use Rattle.std.specs.Cmp.Lexicographic.{slice_cmp}
 use Rattle.std.specs.List.{list_any, position_from}
@@ -18,13 +18,7 @@ shape_bytes shape = flat_map (λ s. kind_code s.kind ∷ s.mask) shape
 abbrev pub spec_bytes : Spec → List ℕ
 spec_bytes spec = shape_bytes (selectors_of spec)
 
--- the specs whose shape no spec before them has
-unfoldable pub first_uses : List Spec → List Spec
-first_uses [] = []
-first_uses (spec ∷ specs) =
-    spec ∷ filter (λ other. not (bytes_eq (spec_bytes spec) (spec_bytes other))) (first_uses specs)
-
--- those with one more spec after the others: it is one of them where none of them has its shape
+-- the first specs of shapes, once one more spec was seen: it is one of them where none of them has its shape
 abbrev pub with_use : List Spec → Spec → List Spec
 with_use firsts spec =
     if list_any (λ first. bytes_eq (spec_bytes spec) (spec_bytes first)) firsts then firsts else firsts ++ spec ∷ []

@@ -6,7 +6,7 @@
 ghost use Rattle.std.specs.Prelude.{◌≡◌, ◌+◌, ◌≤◌, IfOk, OnOk, All, length, map};
 ghost use Rattle.ntuple_compile.specs.Compiled.{shape_number, shapes_of};
 ghost use Rattle.ntuple_compile.specs.Selected.{AreGiven, selectors_of};
-ghost use Rattle.ntuple_compile.specs.ShapeBytes.{IsNumbered, first_uses, number_under, shape_bytes, with_use};
+ghost use Rattle.ntuple_compile.specs.ShapeBytes.{IsNumbered, number_under, shape_bytes, with_use};
 
 use crate::selected::{kinds_of, mask_for};
 use arrayvec::ArrayVec;

@@ -5,8 +5,8 @@ use Rattle.std.specs.Map.{lookup}
 use Rattle.std.specs.Ordering.{nat_cmp}
 use Rattle.arrayvec.specs.ArrayVec.{ArrayVec}
 use Rattle.ntuple_text.specs.declared.spec.Spec.{Spec}
-use Rattle.ntuple_compile.specs.ShapeBytes.{IsNumbered, first_uses, number_under}
-use Rattle.ntuple_compile.proofs.ShapeLemmas.{numbered_none, shapes_of_all, used_more}
+use Rattle.ntuple_compile.specs.ShapeBytes.{IsNumbered, number_under}
+use Rattle.ntuple_compile.proofs.ShapeLemmas.{first_uses, numbered_none, shapes_of_all, used_more}
 use Rattle.ntuple_compile.proofs.shapes.Shapes.of.Goals as goal
 
 pub loop-spec-init : goal.loop-spec-init

@@ -1,5 +1,6 @@
 use Rattle.std.proofs.Common.{◌≡◌, ◌≤◌, length, take}
-use Rattle.ntuple_compile.specs.ShapeBytes.{IsNumbered, first_uses, number_under}
+use Rattle.ntuple_compile.specs.ShapeBytes.{IsNumbered, number_under}
+use Rattle.ntuple_compile.proofs.ShapeLemmas.{first_uses}
 use Rattle.ntuple_compile.proofs.shapes.Shapes.of.Given as goal
 
 abbrev pub invariant-loop-spec : goal.invariant-loop-spec
