@@ -2,7 +2,7 @@
 use Rattle.std.proofs.Common.{◌≡◌, ◌≢◌, ℕ, zero, suc, ◌+◌, ◌-◌, ◌^◌, ◌<◌, ◌≤◌, ◌⊎◌, inl, inr, Bool, true, false, List, [], ◌∷◌, ◌++◌, length, Option, Some, None, Result, Ok, Err, refl, sym, ap, ◌∙◌, subst, append_assoc, append-nil, lit<, ⊎_elim, arith}
 use Rattle.std.specs.Prelude.{if◌then◌else◌, map, nat_lt, ◌==◌}
 use Rattle.std.specs.List.{range_with_len}
-use Rattle.std.proofs.lemmas.Bool.{cases_lt, cond-false, cond-true, eqb-false, eqb-true, leb-false, le-ltb, lt-ltb, ltb-false, ltb-true}
+use Rattle.std.proofs.lemmas.Bool.{cases_lt, cond-false, cond-true, eq-eqb, eqb-false, eqb-true, leb-false, le-ltb, lt-ltb, ltb-false, ltb-true, ne_eqb}
 use Rattle.std.proofs.lemmas.List.{get_or_past}
 use Rattle.std.proofs.lemmas.List.Elements.{All-get_or}
 use Rattle.byte_numbers.proofs.NumberLaws.{le16_at-below}
@@ -16,7 +16,7 @@ use Rattle.split_queue.specs.declared.chain.Chain.{Chain}
 use Rattle.split_queue.specs.declared.queue_place.Place.{Place}
 use Rattle.split_queue.specs.declared.ring_err.RingErr.{RingErr}
 use Rattle.split_queue.specs.declared.ring_err.RingErr.TheVariants as faults
-use Rattle.vnff_run.specs.Drain.{chain_at, chain_line, chain_lines, drain_last, drained, last_of, memory_behind, with_chain_back}
+use Rattle.vnff_run.specs.Drain.{IsDrainable, chain_at, chain_line, chain_lines, drain_last, drained, last_of, memory_behind, with_chain_back}
 use Rattle.vnff_run.specs.declared.drain.Last.TheVariants.{Empty, Faulty}
 use Rattle.vnff_run.proofs.QueuePlaced.{HasRings, has_rings, back-idx, back-size}
 
@@ -102,16 +102,7 @@ none-behind mem place index few same =
     let count : available_idx mem place - index ≡ 0 = omega (arith, same) in
     few-behind mem place index few ∙ ap (chains_from mem place index) count
 
--- the drain stands at an index: these lines are those of the chains before it
-pub record IsAt (image mem : List ℕ) (place : Place) (end : DeviceEndState) (index : ℕ) (front : List ℕ) : Type 0 where
-  pub is_end : end ≡ device_start place (length mem) index
-  pub rings : HasRings place (length mem)
-  pub idx : available_idx mem place ≡ available_idx image place
-  pub small : available_idx image place < 2 ^ 16
-  pub within : index ≤ available_idx image place
-  pub few : (index ≡ 0) ⊎ (available_idx image place ≤ place.size)
-  pub lines : front ++ chain_lines (chains_behind mem place index) ≡ chain_lines (drained image place)
-  pub last : last_of (available_idx image place) (chains_behind mem place index) ≡ drain_last image place
+-- ---- each chain is popped
 
 -- an index has 16 bits
 pub small_idx : (image : List ℕ) (place : Place) → IsBytes image → available_idx image place < 2 ^ 16
@@ -122,6 +113,55 @@ small_idx image place bytes =
           (λ (past : length image ≤ i). rw (get_or_past image i 0 past) (lit< tt))
           (cases_lt i (length image));
     })
+
+-- the chains that went back leave the available index
+left-idx : (image : List ℕ) (place : Place) (count : ℕ) → HasRings place (length image) → count ≤ place.size → (available_idx (memory_behind image place count) place ≡ available_idx image place) × (length (memory_behind image place count) ≡ length image)
+left-idx image place zero rings few = (refl, refl)
+left-idx image place (suc count) rings few =
+    let mem = memory_behind image place count in
+    let before = left-idx image place count rings (omega (arith, few)) in
+    let some : 0 < place.size = omega (arith, few) in
+    let here = subst (HasRings place) (sym before.1) rings in
+    (back-idx mem place count (available_head mem place count) 0 some here ∙ before.0, back-size mem place count (available_head mem place count) 0 some here ∙ before.1)
+
+popped-chain : (mem : List ℕ) (place : Place) (index : ℕ) → index < available_idx mem place → available_idx mem place ≤ place.size → available_idx mem place < 2 ^ 16 → pop_answer mem place index ≡ as_pop_answer (chain_in_slot mem place index)
+unfolding pop_answer
+popped-chain mem place index ahead few small =
+    let idx = available_idx mem place in
+    let gap = gap-ahead index idx (omega (arith, ahead)) small in
+    cond-false (idx == index) _ _ (ne_eqb idx index (λ e. omega (arith, e, ahead))) ∙ cond-false (nat_lt place.size (index_gap index idx)) _ _ (le-ltb place.size (index_gap index idx) (omega (arith, gap, few)))
+
+pub drain-pops : (image : List ℕ) (place : Place) (index : ℕ) → IsDrainable image place → index < available_idx image place → pop_answer (memory_behind image place index) place index ≡ as_pop_answer (chain_at image place index)
+drain-pops image place index good ahead =
+    let left = left-idx image place index (has_rings place (length image) good.placed) (omega (arith, ahead, good.few)) in
+    popped-chain (memory_behind image place index) place index (omega (arith, ahead, left.0)) (omega (arith, good.few, left.0)) (omega (arith, small_idx image place good.bytes, left.0))
+
+pub drain-ends : (image : List ℕ) (place : Place) → IsDrainable image place → pop_answer (memory_behind image place (available_idx image place)) place (available_idx image place) ≡ Ok None
+unfolding pop_answer
+drain-ends image place good =
+    let idx = available_idx image place in
+    let left = left-idx image place idx (has_rings place (length image) good.placed) good.few in
+    cond-true (available_idx (memory_behind image place idx) place == idx) _ _ (eq-eqb (available_idx (memory_behind image place idx) place) idx left.0)
+
+pub drain-jumps : (image : List ℕ) (place : Place) → IsBytes image → place.size < available_idx image place → pop_answer image place 0 ≡ Err (faults.IdxJump (available_idx image place))
+unfolding pop_answer
+drain-jumps image place bytes far =
+    let idx = available_idx image place in
+    let gap = gap-ahead 0 idx (omega arith) (small_idx image place bytes) in
+    cond-false (idx == 0) _ _ (ne_eqb idx 0 (λ e. omega (arith, e, far))) ∙ cond-true (nat_lt place.size (index_gap 0 idx)) _ _ (lt-ltb place.size (index_gap 0 idx) (omega (arith, gap, far)))
+
+-- ---- the drain, chain by chain
+
+-- the drain stands at an index: these lines are those of the chains before it
+pub record IsAt (image mem : List ℕ) (place : Place) (end : DeviceEndState) (index : ℕ) (front : List ℕ) : Type 0 where
+  pub is_end : end ≡ device_start place (length mem) index
+  pub rings : HasRings place (length mem)
+  pub idx : available_idx mem place ≡ available_idx image place
+  pub small : available_idx image place < 2 ^ 16
+  pub within : index ≤ available_idx image place
+  pub few : (index ≡ 0) ⊎ (available_idx image place ≤ place.size)
+  pub lines : front ++ chain_lines (chains_behind mem place index) ≡ chain_lines (drained image place)
+  pub last : last_of (available_idx image place) (chains_behind mem place index) ≡ drain_last image place
 
 -- it begins at 0
 pub starts : (image : List ℕ) (place : Place) (end : DeviceEndState) → end ≡ device_start place (length image) 0 → setup_fault place (length image) ≡ None → available_idx image place < 2 ^ 16 → IsAt image image place end 0 []

@@ -1,11 +1,13 @@
 -- What a drain of a split virtqueue finds in an image of guest memory, and what it writes. This project's own; what a
 -- chain is, and which faults there are, comes from split_queue.
-use Rattle.std.specs.Prelude.{ℕ, zero, suc, nat_lt, if◌then◌else◌, List, [], ◌∷◌, ◌++◌, map, codes, decimal, Result, Ok, Err}
+use Rattle.std.specs.Prelude.{◌≡◌, ℕ, ◌≤◌, zero, suc, nat_lt, if◌then◌else◌, List, [], ◌∷◌, ◌++◌, length, map, codes, decimal, None, Result, Ok, Err}
 use Rattle.std.specs.List.{range_with_len}
 use Rattle.vnff_base.specs.Hex.{hex_text}
+use Rattle.guest_mem.specs.Memory.{IsBytes}
 use Rattle.split_queue.specs.Chains.{room_of}
 use Rattle.split_queue.specs.DeviceEnds.{chain_in_slot}
 use Rattle.split_queue.specs.Rings.{available_idx, available_head, with_used_entry}
+use Rattle.split_queue.specs.Setup.{setup_fault}
 use Rattle.split_queue.specs.declared.chain.Chain.{Chain}
 use Rattle.split_queue.specs.declared.queue_place.Place.{Place}
 use Rattle.split_queue.specs.declared.ring_err.RingErr.{RingErr}
@@ -36,6 +38,12 @@ unfoldable pub drained : List ℕ → Place → List (Result Chain RingErr)
 drained image place =
     let idx = available_idx image place in
     if nat_lt place.size idx then Err (faults.IdxJump idx) ∷ [] else map (chain_at image place) (range_with_len 0 idx)
+
+-- a queue can lie at the place in the image, and its available index is no more than the size
+pub record IsDrainable (image : List ℕ) (place : Place) : Type 0 where
+  pub bytes : IsBytes image
+  pub placed : setup_fault place (length image) ≡ None
+  pub few : available_idx image place ≤ place.size
 
 -- what stands behind chains: the first fault among them, or else the index at which the ring stands empty
 abbrev pub last_of : ℕ → List (Result Chain RingErr) → Last
