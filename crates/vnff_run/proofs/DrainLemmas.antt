@@ -1,7 +1,8 @@
 -- A drain of a queue, chain by chain: where it stands before each chain, and where it ends.
-use Rattle.std.proofs.Common.{◌≡◌, ◌≢◌, ℕ, suc, ◌+◌, ◌-◌, ◌^◌, ◌<◌, ◌≤◌, ◌⊎◌, inl, inr, Bool, true, false, List, [], ◌∷◌, ◌++◌, length, Option, Some, None, Result, Ok, Err, refl, sym, ap, ◌∙◌, subst, append_assoc, append-nil, lit<, ⊎_elim, arith}
-use Rattle.std.specs.Prelude.{if◌then◌else◌, nat_lt, ◌==◌}
-use Rattle.std.proofs.lemmas.Bool.{cases_lt, cond-false, cond-true, eqb-false, eqb-true, leb-false, le-ltb, lt-ltb, ltb-false, ltb-true}
+use Rattle.std.proofs.Common.{◌≡◌, ◌≢◌, ℕ, zero, suc, ◌+◌, ◌-◌, ◌^◌, ◌<◌, ◌≤◌, ◌⊎◌, inl, inr, Bool, true, false, List, [], ◌∷◌, ◌++◌, length, Option, Some, None, Result, Ok, Err, refl, sym, ap, ◌∙◌, subst, append_assoc, append-nil, lit<, ⊎_elim, arith}
+use Rattle.std.specs.Prelude.{if◌then◌else◌, map, nat_lt, ◌==◌}
+use Rattle.std.specs.List.{range_with_len}
+use Rattle.std.proofs.lemmas.Bool.{cases_lt, cond-false, cond-true, eq-eqb, eqb-false, eqb-true, leb-false, le-ltb, lt-ltb, ltb-false, ltb-true, ne_eqb}
 use Rattle.std.proofs.lemmas.List.{get_or_past}
 use Rattle.std.proofs.lemmas.List.Elements.{All-get_or}
 use Rattle.byte_numbers.proofs.NumberLaws.{le16_at-below}
@@ -15,7 +16,7 @@ use Rattle.split_queue.specs.declared.chain.Chain.{Chain}
 use Rattle.split_queue.specs.declared.queue_place.Place.{Place}
 use Rattle.split_queue.specs.declared.ring_err.RingErr.{RingErr}
 use Rattle.split_queue.specs.declared.ring_err.RingErr.TheVariants as faults
-use Rattle.vnff_run.specs.Drain.{chain_line, chain_lines, chains_behind, chains_from, drain_last, drained, last_of, with_chain_back}
+use Rattle.vnff_run.specs.Drain.{IsDrainable, chain_at, chain_line, chain_lines, drain_last, drained, last_of, memory_behind, with_chain_back}
 use Rattle.vnff_run.specs.declared.drain.Last.TheVariants.{Empty, Faulty}
 use Rattle.vnff_run.proofs.QueuePlaced.{HasRings, has_rings, back-idx, back-size}
 
@@ -54,6 +55,33 @@ some_size mem place index chain is =
 
 -- ---- the chains behind an index
 
+-- so many chains from an index on, where this memory is the one before them
+abbrev chains_from : List ℕ → Place → ℕ → ℕ → List (Result Chain RingErr)
+chains_from mem place index zero = []
+chains_from mem place index (suc more) =
+    chain_in_slot mem place index ∷ chains_from (with_chain_back mem place index) place (index + 1) more
+
+-- all from an index on
+unfoldable pub chains_behind : List ℕ → Place → ℕ → List (Result Chain RingErr)
+chains_behind mem place index =
+    let idx = available_idx mem place in
+    if nat_lt place.size idx then Err (faults.IdxJump idx) ∷ [] else chains_from mem place index (idx - index)
+
+from-is : (image : List ℕ) (place : Place) (index count : ℕ) → map (chain_at image place) (range_with_len index count) ≡ chains_from (memory_behind image place index) place index count
+from-is image place index zero = refl
+from-is image place index (suc count) =
+    let next : suc index ≡ index + 1 = omega arith in
+    let mem = memory_behind image place (suc index) in
+    ap (λ more. chain_at image place index ∷ more) (subst (λ i. map (chain_at image place) (range_with_len i count) ≡ chains_from mem place i count) next (from-is image place (suc index) count))
+
+-- those of an image are all from 0 on
+drained-is : (image : List ℕ) (place : Place) → drained image place ≡ chains_behind image place 0
+unfolding drained chains_behind
+drained-is image place =
+    let idx = available_idx image place in
+    let whole : idx ≡ idx - 0 = omega arith in
+    ap (λ more. if nat_lt place.size idx then Err (faults.IdxJump idx) ∷ [] else more) (from-is image place 0 idx ∙ ap (chains_from image place 0) whole)
+
 few-behind : (mem : List ℕ) (place : Place) (index : ℕ) → available_idx mem place ≤ place.size → chains_behind mem place index ≡ chains_from mem place index (available_idx mem place - index)
 unfolding chains_behind
 few-behind mem place index few = cond-false (nat_lt place.size (available_idx mem place)) _ _ (le-ltb place.size (available_idx mem place) few)
@@ -63,7 +91,7 @@ unfolding chains_behind
 jump-behind mem place index far = cond-true (nat_lt place.size (available_idx mem place)) _ _ (lt-ltb place.size (available_idx mem place) far)
 
 -- one stands at the index
-one-behind : (mem : List ℕ) (place : Place) (index : ℕ) → available_idx mem place ≤ place.size → index < available_idx mem place → chains_behind mem place index ≡ chain_in_slot mem place index ∷ chains_from (with_chain_back mem place index) place (index_after index) (available_idx mem place - (index + 1))
+one-behind : (mem : List ℕ) (place : Place) (index : ℕ) → available_idx mem place ≤ place.size → index < available_idx mem place → chains_behind mem place index ≡ chain_in_slot mem place index ∷ chains_from (with_chain_back mem place index) place (index + 1) (available_idx mem place - (index + 1))
 one-behind mem place index few ahead =
     let count : available_idx mem place - index ≡ suc (available_idx mem place - (index + 1)) = omega (arith, ahead) in
     few-behind mem place index few ∙ ap (chains_from mem place index) count
@@ -73,6 +101,56 @@ none-behind : (mem : List ℕ) (place : Place) (index : ℕ) → available_idx m
 none-behind mem place index few same =
     let count : available_idx mem place - index ≡ 0 = omega (arith, same) in
     few-behind mem place index few ∙ ap (chains_from mem place index) count
+
+-- ---- each chain is popped
+
+-- an index has 16 bits
+pub small_idx : (image : List ℕ) (place : Place) → IsBytes image → available_idx image place < 2 ^ 16
+small_idx image place bytes =
+    le16_at-below image (available_idx_addr place) (record {
+      below = λ i. ⊎_elim
+          (λ (inside : i < length image). All-get_or (λ b. b < 256) image i 0 inside bytes)
+          (λ (past : length image ≤ i). rw (get_or_past image i 0 past) (lit< tt))
+          (cases_lt i (length image));
+    })
+
+-- the chains that went back leave the available index
+left-idx : (image : List ℕ) (place : Place) (count : ℕ) → HasRings place (length image) → count ≤ place.size → (available_idx (memory_behind image place count) place ≡ available_idx image place) × (length (memory_behind image place count) ≡ length image)
+left-idx image place zero rings few = (refl, refl)
+left-idx image place (suc count) rings few =
+    let mem = memory_behind image place count in
+    let before = left-idx image place count rings (omega (arith, few)) in
+    let some : 0 < place.size = omega (arith, few) in
+    let here = subst (HasRings place) (sym before.1) rings in
+    (back-idx mem place count (available_head mem place count) 0 some here ∙ before.0, back-size mem place count (available_head mem place count) 0 some here ∙ before.1)
+
+popped-chain : (mem : List ℕ) (place : Place) (index : ℕ) → index < available_idx mem place → available_idx mem place ≤ place.size → available_idx mem place < 2 ^ 16 → pop_answer mem place index ≡ as_pop_answer (chain_in_slot mem place index)
+unfolding pop_answer
+popped-chain mem place index ahead few small =
+    let idx = available_idx mem place in
+    let gap = gap-ahead index idx (omega (arith, ahead)) small in
+    cond-false (idx == index) _ _ (ne_eqb idx index (λ e. omega (arith, e, ahead))) ∙ cond-false (nat_lt place.size (index_gap index idx)) _ _ (le-ltb place.size (index_gap index idx) (omega (arith, gap, few)))
+
+pub drain-pops : (image : List ℕ) (place : Place) (index : ℕ) → IsDrainable image place → index < available_idx image place → pop_answer (memory_behind image place index) place index ≡ as_pop_answer (chain_at image place index)
+drain-pops image place index good ahead =
+    let left = left-idx image place index (has_rings place (length image) good.placed) (omega (arith, ahead, good.few)) in
+    popped-chain (memory_behind image place index) place index (omega (arith, ahead, left.0)) (omega (arith, good.few, left.0)) (omega (arith, small_idx image place good.bytes, left.0))
+
+pub drain-ends : (image : List ℕ) (place : Place) → IsDrainable image place → pop_answer (memory_behind image place (available_idx image place)) place (available_idx image place) ≡ Ok None
+unfolding pop_answer
+drain-ends image place good =
+    let idx = available_idx image place in
+    let left = left-idx image place idx (has_rings place (length image) good.placed) good.few in
+    cond-true (available_idx (memory_behind image place idx) place == idx) _ _ (eq-eqb (available_idx (memory_behind image place idx) place) idx left.0)
+
+pub drain-jumps : (image : List ℕ) (place : Place) → IsBytes image → place.size < available_idx image place → pop_answer image place 0 ≡ Err (faults.IdxJump (available_idx image place))
+unfolding pop_answer
+drain-jumps image place bytes far =
+    let idx = available_idx image place in
+    let gap = gap-ahead 0 idx (omega arith) (small_idx image place bytes) in
+    cond-false (idx == 0) _ _ (ne_eqb idx 0 (λ e. omega (arith, e, far))) ∙ cond-true (nat_lt place.size (index_gap 0 idx)) _ _ (lt-ltb place.size (index_gap 0 idx) (omega (arith, gap, far)))
+
+-- ---- the drain, chain by chain
 
 -- the drain stands at an index: these lines are those of the chains before it
 pub record IsAt (image mem : List ℕ) (place : Place) (end : DeviceEndState) (index : ℕ) (front : List ℕ) : Type 0 where
@@ -85,16 +163,6 @@ pub record IsAt (image mem : List ℕ) (place : Place) (end : DeviceEndState) (i
   pub lines : front ++ chain_lines (chains_behind mem place index) ≡ chain_lines (drained image place)
   pub last : last_of (available_idx image place) (chains_behind mem place index) ≡ drain_last image place
 
--- an index has 16 bits
-pub small_idx : (image : List ℕ) (place : Place) → IsBytes image → available_idx image place < 2 ^ 16
-small_idx image place bytes =
-    le16_at-below image (available_idx_addr place) (record {
-      below = λ i. ⊎_elim
-          (λ (inside : i < length image). All-get_or (λ b. b < 256) image i 0 inside bytes)
-          (λ (past : length image ≤ i). rw (get_or_past image i 0 past) (lit< tt))
-          (cases_lt i (length image));
-    })
-
 -- it begins at 0
 pub starts : (image : List ℕ) (place : Place) (end : DeviceEndState) → end ≡ device_start place (length image) 0 → setup_fault place (length image) ≡ None → available_idx image place < 2 ^ 16 → IsAt image image place end 0 []
 starts image place end start none small = record {
@@ -104,8 +172,8 @@ starts image place end start none small = record {
   small = small;
   within = omega arith;
   few = inl refl;
-  lines = refl;
-  last = refl;
+  lines = ap chain_lines (sym (drained-is image place));
+  last = ap (last_of (available_idx image place)) (sym (drained-is image place));
 }
 
 -- at the index of a pop
@@ -124,7 +192,7 @@ module _ (image mem : List ℕ) (place : Place) (end : DeviceEndState) (index : 
 
   -- not more than the size ahead
   few-here : index_gap index idx ≤ place.size → idx ≤ place.size
-  few-here near = elim here.few [ inl zero ↦ omega (arith, zero, near, gap-is) | inr few ↦ omega (arith, few, here.idx) ]
+  few-here near = elim here.few [ inl start ↦ omega (arith, start, near, gap-is) | inr few ↦ omega (arith, few, here.idx) ]
 
   module _ (chain : Chain) (popped : pop_answer mem end.place end.next ≡ Ok (Some chain)) where
     found : (idx == index ≡ false) × (nat_lt place.size (index_gap index idx) ≡ false) × (chain_in_slot mem place index ≡ Ok chain)
@@ -154,8 +222,8 @@ module _ (image mem : List ℕ) (place : Place) (end : DeviceEndState) (index : 
 
     behind-is : chains_behind mem place index ≡ Ok chain ∷ chains_behind mem_back place (index + 1)
     behind-is =
-        let rest : chains_from mem_back place (index_after index) (idx - (index + 1)) ≡ chains_behind mem_back place (index + 1) = ap (λ i. chains_from mem_back place i (idx - (index + 1))) after-is ∙ ap (λ i. chains_from mem_back place (index + 1) (i - (index + 1))) (sym idx-kept) ∙ sym (few-behind mem_back place (index + 1) (omega (arith, idx-kept, few-idx))) in
-        one-behind mem place index few-idx is_ahead ∙ ap (λ c. c ∷ chains_from mem_back place (index_after index) (idx - (index + 1))) found.2 ∙ ap (λ more. Ok chain ∷ more) rest
+        let rest : chains_from mem_back place (index + 1) (idx - (index + 1)) ≡ chains_behind mem_back place (index + 1) = ap (λ i. chains_from mem_back place (index + 1) (i - (index + 1))) (sym idx-kept) ∙ sym (few-behind mem_back place (index + 1) (omega (arith, idx-kept, few-idx))) in
+        one-behind mem place index few-idx is_ahead ∙ ap (λ c. c ∷ chains_from mem_back place (index + 1) (idx - (index + 1))) found.2 ∙ ap (λ more. Ok chain ∷ more) rest
 
     -- the chain goes back, and the drain stands at the next index
     at-next : IsAt image mem_back place (after_push (after_pop (device_start place (length mem) index))) (index + 1) (front ++ chain_line chain)
@@ -195,7 +263,7 @@ module _ (image mem : List ℕ) (place : Place) (end : DeviceEndState) (index : 
     same = eqb-true idx index (pop-none (idx == index) (nat_lt place.size (index_gap index idx)) idx (chain_in_slot mem place index) (sym pop-is ∙ popped))
 
     nothing : chains_behind mem place index ≡ []
-    nothing = none-behind mem place index (elim here.few [ inl zero ↦ omega (arith, same, zero) | inr few ↦ omega (arith, few, here.idx) ]) same
+    nothing = none-behind mem place index (elim here.few [ inl start ↦ omega (arith, same, start) | inr few ↦ omega (arith, few, here.idx) ]) same
 
     pub empty-lines : front ≡ chain_lines (drained image place)
     empty-lines = sym (append-nil front) ∙ ap (λ cs. front ++ chain_lines cs) (sym nothing) ∙ here.lines
@@ -219,7 +287,7 @@ module _ (image mem : List ℕ) (place : Place) (end : DeviceEndState) (index : 
           ([], jump-behind mem place index (omega (arith, far, gap-is)) ∙ ap (λ g. Err g ∷ []) (sym jump.1))
       | inr bad ↦
           let few = few-here (ltb-false place.size (index_gap index idx) bad.0) in
-          let rest = chains_from (with_chain_back mem place index) place (index_after index) (idx - (index + 1)) in
+          let rest = chains_from (with_chain_back mem place index) place (index + 1) (idx - (index + 1)) in
           (rest, one-behind mem place index few ahead ∙ ap (λ c. c ∷ rest) bad.1)
     ]
 

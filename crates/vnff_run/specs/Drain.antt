@@ -1,10 +1,13 @@
 -- What a drain of a split virtqueue finds in an image of guest memory, and what it writes. This project's own; what a
 -- chain is, and which faults there are, comes from split_queue.
-use Rattle.std.specs.Prelude.{ℕ, zero, suc, ◌-◌, nat_lt, if◌then◌else◌, List, [], ◌∷◌, ◌++◌, codes, decimal, Result, Ok, Err}
+use Rattle.std.specs.Prelude.{◌≡◌, ℕ, ◌≤◌, zero, suc, nat_lt, if◌then◌else◌, List, [], ◌∷◌, ◌++◌, length, map, codes, decimal, None, Result, Ok, Err}
+use Rattle.std.specs.List.{range_with_len}
 use Rattle.vnff_base.specs.Hex.{hex_text}
+use Rattle.guest_mem.specs.Memory.{IsBytes}
 use Rattle.split_queue.specs.Chains.{room_of}
 use Rattle.split_queue.specs.DeviceEnds.{chain_in_slot}
-use Rattle.split_queue.specs.Rings.{index_after, available_idx, available_head, with_used_entry}
+use Rattle.split_queue.specs.Rings.{available_idx, available_head, with_used_entry}
+use Rattle.split_queue.specs.Setup.{setup_fault}
 use Rattle.split_queue.specs.declared.chain.Chain.{Chain}
 use Rattle.split_queue.specs.declared.queue_place.Place.{Place}
 use Rattle.split_queue.specs.declared.ring_err.RingErr.{RingErr}
@@ -21,21 +24,26 @@ use Rattle.vnff_run.specs.declared.drain.Last.TheVariants.{Empty, Faulty}
 abbrev pub with_chain_back : List ℕ → Place → ℕ → List ℕ
 with_chain_back mem place index = with_used_entry mem place index (available_head mem place index) 0
 
--- so many chains from an index on, or their faults: each is read in the memory that the ones before it left
-abbrev pub chains_from : List ℕ → Place → ℕ → ℕ → List (Result Chain RingErr)
-chains_from mem place index zero = []
-chains_from mem place index (suc more) =
-    chain_in_slot mem place index ∷ chains_from (with_chain_back mem place index) place (index_after index) more
+-- the memory that so many chains left, which are those from index 0 on
+abbrev pub memory_behind : List ℕ → Place → ℕ → List ℕ
+memory_behind image place zero = image
+memory_behind image place (suc count) = with_chain_back (memory_behind image place count) place count
 
--- the chains from an index to the available one, unless that is more than the size
-unfoldable pub chains_behind : List ℕ → Place → ℕ → List (Result Chain RingErr)
-chains_behind mem place index =
-    let idx = available_idx mem place in
-    if nat_lt place.size idx then Err (faults.IdxJump idx) ∷ [] else chains_from mem place index (idx - index)
+-- the chain at an index, or its fault, in the memory that the chains before it left
+abbrev pub chain_at : List ℕ → Place → ℕ → Result Chain RingErr
+chain_at image place index = chain_in_slot (memory_behind image place index) place index
 
--- what an image has, from index 0 on
-abbrev pub drained : List ℕ → Place → List (Result Chain RingErr)
-drained image place = chains_behind image place 0
+-- what an image has: a chain or its fault at each index from 0 to the available one, unless that is more than the size
+unfoldable pub drained : List ℕ → Place → List (Result Chain RingErr)
+drained image place =
+    let idx = available_idx image place in
+    if nat_lt place.size idx then Err (faults.IdxJump idx) ∷ [] else map (chain_at image place) (range_with_len 0 idx)
+
+-- a queue can lie at the place in the image, and its available index is no more than the size
+pub record IsDrainable (image : List ℕ) (place : Place) : Type 0 where
+  pub bytes : IsBytes image
+  pub placed : setup_fault place (length image) ≡ None
+  pub few : available_idx image place ≤ place.size
 
 -- what stands behind chains: the first fault among them, or else the index at which the ring stands empty
 abbrev pub last_of : ℕ → List (Result Chain RingErr) → Last

@@ -72,8 +72,8 @@ ReadsInput old new input (Err stop) = ReadStops old new input stop
 abbrev pub IsRefusedBehind : OutputState → OutputState → Outcome → Type 0
 IsRefusedBehind old new outcome = (outcome.status ≡ refused_status) × Wrote old new outcome.text
 
--- Why doing what has an outcome stopped, over an input that was read: a refusal behind what was written, a failed write,
--- or want of memory.
+-- Why doing what has an outcome stopped, over an input that was read: a refusal behind what was written, a failed
+-- write, or want of memory.
 abbrev pub RunStops : OutputState → OutputState → Outcome → Stop → Type 0
 RunStops old new outcome stops.AlreadyRefused = IsRefusedBehind old new outcome
 RunStops old new outcome stops.WriteFault = Stopped old new outcome.text

@@ -83,8 +83,8 @@ fn put_text<O: Out>(
     Ok(last)
 }
 
-/// Writes the line of each chain before the first fault. Each chain goes back as used, with length 0, before the next one
-/// is taken.
+/// Writes the line of each chain before the first fault. Each chain goes back as used, with length 0, before the next
+/// one is taken.
 fn put_chains<O: Out>(
     end: &mut DeviceEnd,
     mem: &mut GuestMem,

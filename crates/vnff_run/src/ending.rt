@@ -30,7 +30,7 @@ pub const WRITE_FAULT: u8 = 4;
 /// The exit status where memory ran out.
 pub const NO_MEMORY: u8 = 5;
 
-/// Writes the line of a refusal, where there is one, and gives the exit status.
+/// Writes the line of a refusal, where it is still to be written, and gives the exit status.
 pub fn exit_status<O: Out>(ended: Result<(), Stop>, out: &mut O) -> u8
     ensures { IsStatusOf (O.state out.old) (O.state out.new) ended result }
 {

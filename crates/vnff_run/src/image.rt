@@ -29,6 +29,7 @@ pub(crate) fn queue_in<S: Shelf>(
 {
     let bytes = bytes_in(alloc, FileKind::Image, name, shelf)?;
     let mem = GuestMem::of(bytes.into_vec());
+    // Its clause says that the memory holds bytes, and so an index of 16 bits.
     let _ = mem.len();
     match DeviceEnd::new(place, 0, &mem) {
         Ok(end) => Ok((mem, end)),

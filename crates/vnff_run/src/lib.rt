@@ -11,17 +11,17 @@
 //! text spells, or its first fault, and reads the canonical text of a script as that script.
 //!
 //! The way of a run: `form` (what the words ask for; `drain_words` has the place of a queue), a module for each form
-//! (`replay`, `drain`), which reads its files by `file` or `image` and runs, and `ending` (its status, and the line of a
-//! refusal); `stop` has why a form ends early. What is written is gathered by `text` and `drain_text`. Scripts are read
-//! by `grammar`, line by line: `device_line` (the first two lines), `select_line` and `item_line`, over the words that
-//! `word` reads.
+//! (`replay`, `drain`), which reads its files by `file` or `image` and runs, and `ending` (its status, and the line of
+//! a refusal); `stop` has why a form ends early. What is written is gathered by `text` and `drain_text`. Scripts are
+//! read by `grammar`, line by line: `device_line` (the first two lines), `select_line` and `item_line`, over the words
+//! that `word` reads.
 //!
 //! Definitions, in specs/: `Forms` (of words), `Inputs` (what the files give, or what is at fault with them) and
 //! `Outcomes` (statuses and texts, form by form); `Grammar` (scripts), `DeviceLines`, `SelectLines` and `ItemLines`
 //! (their lines), `Words`; `DeviceFiles` (files of a device alone, which no form reads yet); `ScriptTexts`
-//! (canonical texts) and `Spellable` (which scripts have one); `Replay` (what a replay writes); `DrainWords` and `Drain`
-//! (the words behind `drain`, and what it finds and writes). `Readings`, `Endings` and `Results` are the code's own. The
-//! laws that stand on no other call are those of `laws`. Worked rows stand in `proofs/Rows.antt` and
+//! (canonical texts) and `Spellable` (which scripts have one); `Replay` (what a replay writes); `DrainWords` and
+//! `Drain` (the words behind `drain`, and what it finds and writes). `Readings`, `Endings` and `Results` are the code's
+//! own. The laws that stand on no other call are those of `laws`. Worked rows stand in `proofs/Rows.antt` and
 //! `proofs/DrainRows.antt`, faulty texts in `proofs/GrammarExamples.antt`.
 #![tactic(auto)]
 
