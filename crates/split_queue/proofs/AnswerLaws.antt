@@ -1,25 +1,28 @@
 -- After a round with a reply the queue holds the command and the reply: neither the reply nor the used element touches
--- the chain.
+-- the chain, nor its descriptors.
 use Rattle.std.proofs.Common.{◌≡◌, ℕ, ◌+◌, ◌^◌, ◌<◌, ◌≤◌, inl, inr, List, length, take, drop, reverse, get_or, Ok, refl, sym, ap, ◌∙◌, subst, arith}
 use Rattle.std.specs.List.{All}
 use Rattle.std.proofs.lemmas.List.{get_or-take, get_or-drop, length-drop}
 use Rattle.std.proofs.lemmas.List.Elements.{All-take}
 use Rattle.byte_numbers.proofs.NumberLaws.{HaveSame, le16_at-same}
 use Rattle.guest_mem.specs.Memory.{ChangesOnly}
-use Rattle.split_queue.specs.Agreement.{IsInQueue, IsClearOf, chain_of_pieces, Round, IsReplyRound, HoldsAnswer}
+use Rattle.split_queue.specs.Agreement.{IsInQueue, IsClearOf, chain_of_pieces, Round, IsReplyRound, HoldPieces, HoldsAnswer}
 use Rattle.split_queue.specs.Chains.{bytes_in, PieceLiesIn, IsInPiece, IsInPieces, AreApart}
 use Rattle.split_queue.specs.DeviceEnds.{DeviceEndState}
 use Rattle.split_queue.specs.DriverEnds.{DriverEndState, IsValidDriver, chain_numbers, with_descriptors, with_post}
-use Rattle.split_queue.specs.Pools.{first_free}
+use Rattle.split_queue.specs.Pools.{AreFree, first_free}
 use Rattle.split_queue.specs.QueuePlaces.{available_slot_addr, available_slot_bytes, table_bytes}
 use Rattle.split_queue.specs.Rings.{index_after, index_before, available_idx, available_head, with_used_entry}
 use Rattle.split_queue.specs.Setup.{IsPlaced, IsInArea, table_area, available_area, used_area}
-use Rattle.split_queue.specs.Walks.{chain_of}
+use Rattle.split_queue.specs.Walks.{chain_of, HoldsWalk}
+use Rattle.split_queue.specs.declared.chain.Chain.{Chain}
 use Rattle.split_queue.specs.declared.chain.Piece.{Piece}
 use Rattle.split_queue.proofs.AgreementLaws.{table-changes, slot-changes, post-changes, at_push-agree, at_take-is, element, enough_free, head-was_free, round-agrees}
 use Rattle.split_queue.proofs.ChainNumbers.{AreFree-chain_numbers, length-chain_numbers}
+use Rattle.split_queue.proofs.LinkedWalk.{walk-is-numbers, numbers-hold_pieces}
+use Rattle.split_queue.proofs.OutcomeLaws.{chain-walk}
 use Rattle.split_queue.proofs.PostedChain.{chain_of-numbers}
-use Rattle.split_queue.proofs.PostedDescriptors.{FitsFields, with_available_entry-head}
+use Rattle.split_queue.proofs.PostedDescriptors.{FitsFields, AreLinked, AreLinked-same, with_descriptors-linked, with_available_entry-head}
 use Rattle.split_queue.proofs.ReplyLaws.{bytes_in-same, with_bytes_in-changes, with_bytes_in-begins}
 use Rattle.split_queue.proofs.RingLaws.{HasElement, with_used_entry-changes}
 
@@ -132,28 +135,60 @@ module _ (driver : DriverEndState) (device : DeviceEndState) (round : Round) (re
   last_size : length last_memory ≡ length round.at_post
   last_size = used_change.size ∙ sym push_size ∙ answer.is_round.agree.driver_memory
 
-  chain-stays : chain_of last_memory driver.place round.head ≡ Ok (chain_of_pieces round.at_post round.head round.pieces round.readable)
+  abbrev numbers : List ℕ
+  numbers = chain_numbers (length round.pieces) driver.pool.free
+
+  abbrev posted_chain : Chain
+  posted_chain = chain_of_pieces round.at_post round.head round.pieces round.readable
+
+  placed : IsPlaced driver.place (length round.at_post)
+  placed = subst (λ n. IsPlaced driver.place n) answer.is_round.agree.driver_memory end.valid.placed
+
+  fields : All FitsFields round.pieces
+  fields = λ k d below. record {
+    addr = omega (arith, answer.postable.inside k d below, placed.short);
+    len = answer.lengths k d below;
+  }
+
+  numbers-free : AreFree driver.pool.owners numbers
+  numbers-free = AreFree-chain_numbers driver.pool.owners (length round.pieces) driver.pool.free end.free_list
+
+  numbers-as_long : length numbers ≡ length round.pieces
+  numbers-as_long = length-chain_numbers (length round.pieces) driver.pool.free (enough_free driver device round end answer.is_round).0
+
+  size-small : driver.place.size < 2 ^ 16
+  size-small = omega (arith, end.few, end.valid.same_size)
+
+  chain-stays : chain_of last_memory driver.place round.head ≡ Ok posted_chain
   chain-stays =
-      let numbers = chain_numbers (length round.pieces) driver.pool.free in
-      let placed = subst (λ n. IsPlaced driver.place n) answer.is_round.agree.driver_memory end.valid.placed in
-      let fields : All FitsFields round.pieces = λ k d below. record {
-        addr = omega (arith, answer.postable.inside k d below, placed.short);
-        len = answer.lengths k d below;
-      } in
-      let free_list = AreFree-chain_numbers driver.pool.owners (length round.pieces) driver.pool.free end.free_list in
-      let as_long = length-chain_numbers (length round.pieces) driver.pool.free (enough_free driver device round end answer.is_round).0 in
-      let at_first = chain_of-numbers round.at_post driver.place driver.pool.owners numbers round.pieces round.readable placed end.valid.same_size (omega (arith, end.few, end.valid.same_size)) free_list fields as_long answer.is_round.some answer.postable last_memory table-stays last_size command-stays in
+      let at_first = chain_of-numbers round.at_post driver.place driver.pool.owners numbers round.pieces round.readable placed end.valid.same_size size-small numbers-free fields numbers-as_long answer.is_round.some answer.postable last_memory table-stays last_size command-stays in
       subst (λ n. chain_of last_memory driver.place n ≡ Ok (chain_of_pieces round.at_post n round.pieces round.readable)) first-is at_first
+
+  -- the longest walk from the head is along the descriptors that the chain got, which hold its pieces
+  numbers-linked : AreLinked last_memory driver.place numbers round.pieces round.readable
+  numbers-linked =
+      AreLinked-same driver.place driver.pool.owners end.valid.same_size table_memory last_memory numbers round.pieces round.readable table-stays numbers-free
+      (with_descriptors-linked driver.place driver.pool.owners end.valid.same_size round.at_post numbers round.pieces round.readable size-small placed.table numbers-free fields)
+
+  numbers-walk : HoldsWalk last_memory driver.place posted_chain numbers
+  numbers-walk =
+      let below : round.head < driver.place.size = omega (arith, (head-was_free driver device round end answer.is_round).0, end.valid.same_size) in
+      let found = chain-walk last_memory driver.place round.head below posted_chain (sym chain-stays) in
+      let is = walk-is-numbers last_memory driver.place driver.pool.owners numbers round.pieces round.readable end.valid.same_size numbers-free numbers-as_long (omega (arith, numbers-as_long, answer.is_round.some)) numbers-linked posted_chain found.0 first-is found.1 in
+      subst (HoldsWalk last_memory driver.place posted_chain) is found.1
+
+  numbers-pieces : HoldPieces last_memory driver.place numbers round.pieces round.readable
+  numbers-pieces = numbers-hold_pieces last_memory driver.place driver.pool.owners numbers round.pieces round.readable end.valid.same_size numbers-free numbers-as_long (omega (arith, numbers-as_long, answer.is_round.some)) numbers-linked
 
   head-in_slot : available_head last_memory driver.place driver.next ≡ round.head
   head-in_slot =
       let free = enough_free driver device round end answer.is_round in
-      let placed = subst (λ n. IsPlaced driver.place n) (answer.is_round.agree.driver_memory ∙ sym table_change.size) end.valid.placed in
+      let table_placed = subst (λ n. IsPlaced driver.place n) (answer.is_round.agree.driver_memory ∙ sym table_change.size) end.valid.placed in
       let small : first_free driver.pool.free < 2 ^ 16 = omega (arith, sym free.1, (head-was_free driver device round end answer.is_round).0, end.few) in
       le16_at-same post_memory last_memory (available_slot_addr driver.place driver.next) slot-stays
-      ∙ with_available_entry-head table_memory driver.place driver.next (first_free driver.pool.free) placed small ∙ sym free.1
+      ∙ with_available_entry-head table_memory driver.place driver.next (first_free driver.pool.free) table_placed small ∙ sym free.1
 
-  pub answer-held : HoldsAnswer round.at_take driver.place (chain_of_pieces round.at_post round.head round.pieces round.readable) reply round.len
+  pub answer-held : HoldsAnswer round.at_take driver.place posted_chain round.pieces round.readable reply round.len
   answer-held =
       let is = at_take-is driver device round end answer.is_round in
       let has : HasElement last_memory driver.place driver.used round.head round.len = element driver device round end answer.is_round in
@@ -163,6 +198,9 @@ module _ (driver : DriverEndState) (device : DeviceEndState) (round : Round) (re
       rw is (record {
         in_last_slot = rw (idx, available_before) head-in_slot;
         is_chain = chain-stays;
+        walk = numbers;
+        holds_walk = numbers-walk;
+        hold_pieces = numbers-pieces;
         begins = reply-stays;
         last_used = rw (has.idx, used_before, has.is_head, has.is_len) refl;
       })

@@ -1,12 +1,12 @@
 -- The definitions at worked examples.
-use Rattle.std.proofs.Common.{◌≡◌, ℕ, List, [], ◌∷◌, ◌++◌, replicate, Some, None, Ok, Err, refl}
+use Rattle.std.proofs.Common.{◌≡◌, ℕ, List, [], ◌∷◌, ◌++◌, map, replicate, Some, None, Ok, Err, refl}
 use Rattle.std.specs.Int.Count.{ones}
 use Rattle.byte_numbers.specs.Numbers.{le16_at, le32_at, le64_at}
 use Rattle.split_queue.specs.Descriptors.{descriptor_at, with_le16, with_le32}
 use Rattle.split_queue.specs.DeviceEnds.{pop_answer}
 use Rattle.split_queue.specs.Rings.{with_used_entry}
 use Rattle.split_queue.specs.Setup.{setup_fault}
-use Rattle.split_queue.specs.Walks.{buffer_fault, next_fault, next_in_chain, chain_from, chain_of, fault_in_walk}
+use Rattle.split_queue.specs.Walks.{buffer_of, buffer_fault, next_fault, next_in_chain, chain_from, chain_of, fault_in_walk}
 use Rattle.split_queue.specs.declared.queue_place.Place.{Place}
 use Rattle.split_queue.specs.declared.setup.SetupErr.TheVariants as setup
 use Rattle.split_queue.specs.declared.ring_err.RingErr.TheVariants as fault
@@ -70,6 +70,11 @@ loop_at_0 = refl
 none_at_1 : fault_in_walk (memory 1) ring (0 ∷ 1 ∷ []) 1 ≡ None
 unfolding fault_in_walk buffer_fault next_fault descriptor_at le16_at le32_at le64_at memory ring
 none_at_1 = refl
+
+-- both hold these buffers
+buffers_of_0_and_1 : map (λ n. buffer_of (descriptor_at (memory 1) ring n)) (0 ∷ 1 ∷ []) ≡ record { addr = 128; len = 24 } ∷ record { addr = 160; len = 8 } ∷ []
+unfolding descriptor_at le16_at le32_at le64_at memory ring
+buffers_of_0_and_1 = refl
 
 next_past_the_table : pop_answer (memory 4) ring 65535 ≡ Err (fault.BadNext 0)
 unfolding pop_answer chain_of chain_from next_in_chain buffer_fault next_fault descriptor_at le16_at le32_at le64_at memory ring

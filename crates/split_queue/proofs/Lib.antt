@@ -13,6 +13,7 @@ pub mod PostLaws
 pub mod PostedChain
 pub mod PostedDescriptors
 pub mod PostedWalk
+pub mod LinkedWalk
 pub mod ReadLaws
 pub mod RingLaws
 pub mod ScatterSteps

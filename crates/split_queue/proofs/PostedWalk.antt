@@ -26,13 +26,13 @@ use Rattle.split_queue.specs.declared.ring_err.RingErr.TheVariants as fault
 -- ---- what a piece's descriptor says
 
 module _ (piece : Piece) (readable : ℕ) (later : List Piece) (numbers : List ℕ) where
-  piece_descriptor-has_next : has_next (piece_descriptor piece readable later numbers) ≡ not (length later == 0)
+  pub piece_descriptor-has_next : has_next (piece_descriptor piece readable later numbers) ≡ not (length later == 0)
   piece_descriptor-has_next = elim (length later == 0) as (λ b. not (bit_and (cond b 0 1 + cond (readable == 0) 2 0) 1 == 0) ≡ not b) [
     | true ↦ elim (readable == 0) as (λ b. not (bit_and (0 + cond b 2 0) 1 == 0) ≡ false) [ true ↦ refl | false ↦ refl ]
     | false ↦ elim (readable == 0) as (λ b. not (bit_and (1 + cond b 2 0) 1 == 0) ≡ true) [ true ↦ refl | false ↦ refl ]
   ]
 
-  piece_descriptor-is_writable : is_writable (piece_descriptor piece readable later numbers) ≡ (readable == 0)
+  pub piece_descriptor-is_writable : is_writable (piece_descriptor piece readable later numbers) ≡ (readable == 0)
   piece_descriptor-is_writable = elim (readable == 0) as (λ b. not (bit_and (cond (length later == 0) 0 1 + cond b 2 0) 2 == 0) ≡ b) [
     | true ↦ elim (length later == 0) as (λ b. not (bit_and (cond b 0 1 + 2) 2 == 0) ≡ true) [ true ↦ refl | false ↦ refl ]
     | false ↦ elim (length later == 0) as (λ b. not (bit_and (cond b 0 1 + 0) 2 == 0) ≡ false) [ true ↦ refl | false ↦ refl ]

@@ -1,14 +1,15 @@
 -- When the two ends of a queue agree, and what a driver's chain is at the device's end: however its bytes are cut into
 -- pieces, the device gets the same. This project's own.
-use Rattle.std.specs.Prelude.{◌≡◌, ℕ, ◌^◌, ◌<◌, ◌≤◌, ◌⊎◌, List, length, take, drop, All, Ok}
+use Rattle.std.specs.Prelude.{◌≡◌, ℕ, ◌^◌, ◌<◌, ◌≤◌, ◌⊎◌, true, false, List, length, map, take, drop, All, Ok}
 use Rattle.std.specs.List.{AllPairs}
 use Rattle.guest_mem.specs.Memory.{ChangesOnly}
 use Rattle.split_queue.specs.Chains.{most_descriptors, most_readable, room_of, bytes_in, PieceLiesIn, with_bytes_in, IsInPiece, AreApart}
 use Rattle.split_queue.specs.DeviceEnds.{DeviceEndState}
+use Rattle.split_queue.specs.Descriptors.{descriptor_at, is_writable}
 use Rattle.split_queue.specs.DriverEnds.{DriverEndState, post_answer, after_post, with_post, after_take}
 use Rattle.split_queue.specs.Rings.{available_idx, used_idx, with_used_entry, last_available_head, last_used_element, IsInRings}
 use Rattle.split_queue.specs.Setup.{table_area, IsInArea}
-use Rattle.split_queue.specs.Walks.{chain_of}
+use Rattle.split_queue.specs.Walks.{buffer_of, HoldsWalk, chain_of}
 use Rattle.split_queue.specs.declared.chain.Chain.{Chain}
 use Rattle.split_queue.specs.declared.chain.Piece.{Piece}
 use Rattle.split_queue.specs.declared.queue_place.Place.{Place}
@@ -92,10 +93,23 @@ pub record IsReplyRound (driver : DriverEndState) (device : DeviceEndState) (rou
   pub written : round.at_push
       ≡ with_bytes_in (with_post round.at_post driver round.pieces round.readable) (drop round.readable round.pieces) reply
 
--- the queue holds a command and its reply: the slot that was filled last has the head of this chain, its writable
--- buffers begin with the reply, and the used element that was written last names its head and a length
-pub record HoldsAnswer (mem : List ℕ) (place : Place) (chain : Chain) (reply : List ℕ) (len : ℕ) : Type 0 where
+-- the descriptors with these numbers hold just these pieces, in order: the first `readable` are for the device to read,
+-- and the others for it to write
+pub record HoldPieces (mem : List ℕ) (place : Place) (numbers : List ℕ) (pieces : List Piece)
+    (readable : ℕ) : Type 0 where
+  pub buffers : map (λ n. buffer_of (descriptor_at mem place n)) numbers ≡ pieces
+  pub readable_first : All (λ n. is_writable (descriptor_at mem place n) ≡ false) (take readable numbers)
+  pub writable_then : All (λ n. is_writable (descriptor_at mem place n) ≡ true) (drop readable numbers)
+
+-- the queue holds a command and its reply: the slot that was filled last has the head of this chain, the longest walk
+-- from it holds just these pieces, of which so many are readable, the chain's writable buffers begin with the reply, and
+-- the used element that was written last names its head and a length
+pub record HoldsAnswer (mem : List ℕ) (place : Place) (chain : Chain) (pieces : List Piece) (readable : ℕ) (reply : List ℕ)
+    (len : ℕ) : Type 0 where
   pub in_last_slot : last_available_head mem place ≡ chain.head
   pub is_chain : chain_of mem place chain.head ≡ Ok chain
+  pub walk : List ℕ
+  pub holds_walk : HoldsWalk mem place chain walk
+  pub hold_pieces : HoldPieces mem place walk pieces readable
   pub begins : take (length reply) (bytes_in mem chain.writable.items) ≡ reply
   pub last_used : last_used_element mem place ≡ (chain.head, len)

@@ -14,7 +14,7 @@
 //! Both ends of a fresh queue agree, and bytes outside of the queue don't change that. After a round of post, pop, push
 //! and take they agree again: the take gives the chain that was pushed, and as many descriptors are free as before
 //! ([`rounds_keep_agreement`]). Where the device writes a reply into the chain's writable pieces, command and reply lie
-//! in the queue afterwards ([`rounds_leave_the_answer`]).
+//! in the queue afterwards, in just the pieces that were posted ([`rounds_leave_the_answer`]).
 //!
 //! The modules, lowest first: `queue_place` (where a queue lies), `setup` (whether it may lie there), `number`
 //! (in memory), `descriptor`, `ring`, `chain` (what a device gets), `ring_err`, `walk` (from a head to its chain),

@@ -11,8 +11,7 @@ use Rattle.split_queue.specs.Chains.{room_of, bytes_in, PieceLiesIn, AreApart}
 use Rattle.split_queue.specs.Setup.{setup_fault}
 use Rattle.split_queue.specs.declared.chain.Piece.{Piece}
 use Rattle.guest_mem.specs.Memory.{bytes_at}
-use Rattle.steer.specs.BenchPlaces.{bench_bytes, bench_place, bench_size, command_addr, reply_addr, most_command, most_room, command_step, room_step, pieces_of, command_pieces, room_pieces}
-use Rattle.steer.specs.Rounds.{chain_pieces}
+use Rattle.steer.specs.BenchPlaces.{bench_bytes, bench_place, bench_size, command_addr, reply_addr, most_command, most_room, command_step, room_step, pieces_of, command_pieces, room_pieces, chain_pieces}
 use Rattle.steer.proofs.PieceLemmas.{length-pieces_from, room_of-pieces_from, pieces_from-within, bytes_in-pieces_from, pieces_from-apart}
 
 -- the bench's ring may lie at its place

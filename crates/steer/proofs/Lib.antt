@@ -1,3 +1,4 @@
+mod Examples
 pub mod PieceLemmas
 pub mod ChainLemmas
 pub mod RoundLemmas

@@ -18,10 +18,10 @@ use Rattle.split_queue.specs.declared.ring_err.RingErr.{RingErr}
 use Rattle.split_queue.proofs.AgreementLaws.{agree-kept, pieces-keep, post-changes, round-takes, round-agrees, round-frees}
 use Rattle.split_queue.proofs.AnswerLaws.{answer-held}
 use Rattle.split_queue.proofs.ReplyLaws.{with_bytes_in-changes}
-use Rattle.steer.specs.BenchPlaces.{bench_bytes, bench_place, command_addr, command_step, most_command, most_room, command_pieces, room_pieces, chain_with}
+use Rattle.steer.specs.BenchPlaces.{bench_bytes, bench_place, command_addr, command_step, most_command, most_room, command_pieces, room_pieces, chain_pieces, chain_with}
 use Rattle.steer.specs.BenchState.{AreReady}
 use Rattle.steer.specs.HeldCommands.{HoldsCommand}
-use Rattle.steer.specs.Rounds.{chain_pieces, with_command, with_posted, round_of}
+use Rattle.steer.specs.Rounds.{with_command, with_posted, round_of}
 use Rattle.steer.proofs.ChainLemmas.{bytes_in-pieces_of, readable_pieces, writable_pieces, room_of-room_pieces, some_pieces, room-inside, room-clear, postable, short_pieces, lie_apart}
 
 -- ---- a reply fits in its room
@@ -147,8 +147,8 @@ module _ (driver : DriverEndState) (device : DeviceEndState) (mem : List ℕ) (r
       used = subst (λ place. used_idx round.at_take place ≡ index_after driver.next) ready.place (agrees.used_idx ∙ ap index_after ready.all_back);
       head = head;
       answer =
-          subst (λ place. HoldsAnswer round.at_take place (chain_with head command room) reply (length reply)) ready.place
-          (subst (λ chain. HoldsAnswer round.at_take driver.place chain reply (length reply)) (chain-is mem command ready.bytes short head room)
+          subst (λ place. HoldsAnswer round.at_take place (chain_with head command room) round.pieces round.readable reply (length reply)) ready.place
+          (subst (λ chain. HoldsAnswer round.at_take driver.place chain round.pieces round.readable reply (length reply)) (chain-is mem command ready.bytes short head room)
           (answer-held driver device round reply valid is_reply_round));
     }
 

@@ -1,6 +1,6 @@
 -- Where the parts of a bench stand in its guest memory, and into which pieces a command and the room for its reply are
 -- cut. This project's own; the rings are laid out as in the Virtio 1.4 draft ("Split Virtqueues").
-use Rattle.std.specs.Prelude.{ℕ, zero, suc, ◌+◌, ◌-◌, min, List, [], ◌∷◌}
+use Rattle.std.specs.Prelude.{ℕ, zero, suc, ◌+◌, ◌-◌, min, List, [], ◌∷◌, ◌++◌}
 use Rattle.std.specs.Int.{div_ceil}
 use Rattle.split_queue.specs.declared.chain.Chain.{Chain}
 use Rattle.split_queue.specs.declared.chain.Piece.{Piece}
@@ -57,6 +57,10 @@ command_pieces len = pieces_of command_addr len command_step
 
 abbrev pub room_pieces : ℕ → List Piece
 room_pieces room = pieces_of reply_addr room room_step
+
+-- the pieces of the chain for a command of so many bytes and a room: the command's, and then the room's
+abbrev pub chain_pieces : ℕ → ℕ → List Piece
+chain_pieces len room = command_pieces len ++ room_pieces room
 
 -- the chain of a command: what the device reads is the command, what it may write is the room
 abbrev pub chain_with : ℕ → List ℕ → ℕ → Chain

@@ -1,16 +1,11 @@
 -- The memory of a bench while a command goes through its ring. This project's own.
-use Rattle.std.specs.Prelude.{ℕ, ◌++◌, List, length}
+use Rattle.std.specs.Prelude.{ℕ, List, length}
 use Rattle.guest_mem.specs.Memory.{with_bytes}
 use Rattle.split_queue.specs.Agreement.{Round}
 use Rattle.split_queue.specs.Chains.{with_bytes_in}
 use Rattle.split_queue.specs.DriverEnds.{DriverEndState, with_post}
 use Rattle.split_queue.specs.Rings.{with_used_entry}
-use Rattle.split_queue.specs.declared.chain.Piece.{Piece}
-use Rattle.steer.specs.BenchPlaces.{bench_place, command_addr, command_pieces, room_pieces}
-
--- the pieces of the chain for a command of so many bytes and a room: the command's, and then the room's
-abbrev pub chain_pieces : ℕ → ℕ → List Piece
-chain_pieces len room = command_pieces len ++ room_pieces room
+use Rattle.steer.specs.BenchPlaces.{bench_place, command_addr, command_pieces, room_pieces, chain_pieces}
 
 -- the memory with a command, and after its chain was posted
 abbrev pub with_command : List ℕ → List ℕ → List ℕ

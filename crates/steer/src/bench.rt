@@ -75,6 +75,7 @@ impl Bench {
         ensures state { self.new.device ≡ next_state self.old.device bytes.now room }
         ensures valid { IsValid self.new.device }
         ensures commands { self.new.commands ≡ index_after self.old.commands }
+        ensures memory { length self.new.memory ≡ bench_bytes }
         ensures ring { HoldsCommand self.new.memory self.new.commands bytes.now room result.items }
     {
         let _head = post_command(&mut self.driver_end, &mut self.mem, bytes, room);

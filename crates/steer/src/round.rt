@@ -8,9 +8,9 @@ ghost use Rattle.split_queue.specs.DeviceEnds.{DeviceEndState, pop_answer, after
 ghost use Rattle.split_queue.specs.DriverEnds.{IsValidDriver, post_answer, after_post, take_answer, after_take};
 ghost use Rattle.split_queue.specs.Rings.{with_used_entry};
 ghost use Rattle.split_queue.specs.declared.chain.Chain.{Chain};
-ghost use Rattle.steer.specs.BenchPlaces.{bench_bytes, bench_size, bench_place, most_command, most_room, chain_with};
+ghost use Rattle.steer.specs.BenchPlaces.{bench_bytes, bench_size, bench_place, most_command, most_room, chain_pieces, chain_with};
 ghost use Rattle.steer.specs.BenchState.{IsMachine, changed_by};
-ghost use Rattle.steer.specs.Rounds.{chain_pieces, with_posted};
+ghost use Rattle.steer.specs.Rounds.{with_posted};
 
 use crate::pieces::{Pieces, add_pieces};
 use admin_dev::{Decision, Device, Effect};

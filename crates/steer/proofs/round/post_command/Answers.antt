@@ -1,6 +1,6 @@
 use Rattle.std.proofs.Common.{◌≡◌, length, ap, ◌∙◌, arith, rules}
-use Rattle.steer.specs.BenchPlaces.{command_pieces}
-use Rattle.steer.specs.Rounds.{chain_pieces, with_command}
+use Rattle.steer.specs.BenchPlaces.{command_pieces, chain_pieces}
+use Rattle.steer.specs.Rounds.{with_command}
 use Rattle.steer.proofs.ChainLemmas.{length-command_pieces, length-chain_pieces, added-command, added-room, some_pieces, few_pieces}
 use Rattle.steer.proofs.RoundLemmas.{command-pops}
 use Rattle.steer.proofs.round.post_command.Goals as goal

@@ -123,3 +123,6 @@ returns-clause-ring c =
     let driver = c.take_back-element.ensures.state ∙ ap (λ (e : ℕ × ℕ). after_take c.post_command-head.new.driver_end e.0) taken
     ∙ ap (λ (end : DriverEndState). after_take end c.post_command-head.result) c.post_command-head.ensures.state in
     rw driver sent.holds
+
+pub returns-clause-memory : goal.returns-clause-memory
+returns-clause-memory c = (invariant_of-self c).1.bytes
