@@ -49,11 +49,11 @@ fn put_together<O: Out>(out: &mut O, head: &[u8; 16], frame: &[u8]) -> Result<()
 }
 
 /// Writes the 16 bytes before a frame, and the frame, into the front of a buffer.
-fn join(head: &[u8; 16], frame: &[u8], record: &mut [u8])
-    requires { 16 + length frame.now ≤ length record.old }
-    ensures { take (16 + length frame.now) record.new ≡ head.now ++ frame.now }
+fn join(head: &[u8; 16], frame: &[u8], buffer: &mut [u8])
+    requires { 16 + length frame.now ≤ length buffer.old }
+    ensures { take (16 + length frame.now) buffer.new ≡ head.now ++ frame.now }
 {
-    let (first, rest) = record.split_at_mut(RECORD_SIZE);
+    let (first, rest) = buffer.split_at_mut(RECORD_SIZE);
     first.copy_from_slice(head);
     rest[..frame.len()].copy_from_slice(frame);
 }
