@@ -63,6 +63,15 @@ impl<O: Out> CaptureSink<O> {
     {
         self.broken
     }
+
+    /// Counts a call of a broken sink.
+    fn refuse(&mut self) -> Failed
+        ensures counted { self.new ≡ record self.old { refused = count_after self.old.refused 1 } }
+        ensures grew { self.old.refused ≤ self.new.refused }
+    {
+        self.refused = self.refused.saturating_add(1);
+        Failed
+    }
 }
 
 impl<O: Out + Drop> RxSink for CaptureSink<O> {
@@ -76,8 +85,7 @@ impl<O: Out + Drop> RxSink for CaptureSink<O> {
         ensures capture { OnOk result (TellsCapture self.new) }
     {
         if self.broken {
-            self.refused = self.refused.saturating_add(1);
-            return Err(Failed);
+            return Err(self.refuse());
         }
         let written = put_record(&mut self.out, self.begun, frame);
         self.begun = true;
@@ -92,8 +100,7 @@ impl<O: Out + Drop> RxSink for CaptureSink<O> {
         ensures capture { OnOk result (TellsCapture self.new) }
     {
         if self.broken {
-            self.refused = self.refused.saturating_add(1);
-            return Err(Failed);
+            return Err(self.refuse());
         }
         let written = begin(&mut self.out, self.begun);
         self.begun = true;

@@ -2,8 +2,8 @@ use Rattle.rx_sinks.specs.CaptureSinks.{CaptureSinkState}
 use Rattle.rx_sinks.proofs.CaptureSinkLemmas.{capture_finishes, sound_finished, sound_tells}
 use Rattle.rx_sinks.proofs.capture_sink.CaptureSinkRxSink.finish.Goals as goal
 
-pub invariant_of-self-2 : goal.invariant_of-self-2
-invariant_of-self-2 g c =
+pub invariant_of-self : goal.invariant_of-self
+invariant_of-self g c =
     let old : CaptureSinkState = record { output = g.O.Out.state c.self.inside.out; begun = c.self.inside.begun; broken = c.self.inside.broken; refused = c.self.inside.refused } in
     let output = g.O.Out.state c.begin-written.new.out in
     let broken = c.is_err-self-inside.result in
