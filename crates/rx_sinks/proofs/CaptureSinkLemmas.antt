@@ -36,7 +36,7 @@ unfolding capture_text header_text
 capture_text-cons frames = refl
 
 -- the frames of what was written of them
-frames_of-text : (frames : List (List ℕ)) → All IsShort frames → frames_of (capture_text frames) ≡ Some frames
+pub frames_of-text : (frames : List (List ℕ)) → All IsShort frames → frames_of (capture_text frames) ≡ Some frames
 frames_of-text frames short = capture_text-cons frames ∙ ap result_ok (is-capture_of (capture_text frames) frames (capture-written frames short))
 
 -- What is written before the first frame, and the frames of that.

@@ -1,3 +1,5 @@
 pub mod CaptureSinkLemmas
 pub mod MemSinkLemmas
 pub mod RackLemmas
+pub mod SinkLaws
+mod SinkExamples

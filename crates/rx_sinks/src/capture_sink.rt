@@ -56,6 +56,13 @@ impl<O: Out> CaptureSink<O> {
         }
     }
 
+    /// The output that the capture is written to.
+    pub fn out(&self) -> &O
+        ensures { O.state result.now ≡ self.now.output }
+    {
+        &self.out
+    }
+
     /// Whether a put failed. Of a sink that isn't broken the output holds a capture of the frames, or nothing yet.
     pub fn is_broken(&self) -> bool
         ensures flag { result ≡ self.now.broken }
