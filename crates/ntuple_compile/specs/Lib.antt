@@ -3,3 +3,4 @@ pub mod SpecFits
 pub mod Selected
 pub mod Written
 pub mod Compiled
+pub mod Acceptance

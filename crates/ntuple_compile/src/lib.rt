@@ -15,9 +15,11 @@
 //! Worked examples stand in `proofs/CompileExamples.antt`.
 #![tactic(auto)]
 
+mod compiling;
 mod error;
 mod header;
 pub mod laws;
 mod selected;
 
+pub use compiling::compile;
 pub use error::CompileErr;
