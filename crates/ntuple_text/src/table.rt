@@ -70,7 +70,7 @@ impl Table {
     }
 
     /// What stands at each location, from 0 up.
-    pub(crate) fn slots(&self) -> &[Option<Spec>]
+    pub fn slots(&self) -> &[Option<Spec>]
         ensures value { result.now ≡ self.now.slots }
         ensures table { IsTable self.now.pairs self.now.slots }
     {
