@@ -5,8 +5,6 @@ use Rattle.std.specs.Fmt.{digits}
 use Rattle.vnff_base.specs.Hex.{hex_bytes}
 use Rattle.vnff_base.specs.Numbers.{number_of}
 use Rattle.vnff_base.specs.Lines.{words_of}
-use Rattle.byte_numbers.specs.Numbers.{le16_at, le32_at, le64_at}
-use Rattle.admin_wire.specs.Headers.{header_of, opcode_of}
 use Rattle.vnff_run.specs.DeviceFiles.{device_file_of, device_file_of_lines, no_item, ready_start}
 use Rattle.vnff_run.specs.DeviceLines.{is_version, start_of, caps_of, device_of}
 use Rattle.vnff_run.specs.Grammar.{after_version, device_in, selectors_in, items_of, script_of, script_of_lines}

@@ -1,13 +1,17 @@
 mod AnswerLemmas
+mod CompiledLines
 mod EndingLemmas
 mod GrammarExamples
 mod GrammarLemmas
 mod InputLemmas
+mod PacketLemmas
 mod ReplayLemmas
 mod Rows
 mod ScriptReadBack
 mod SelectLemmas
+mod SentCommands
 mod SpelledLines
+mod TableInputLemmas
 mod TextLines
 mod WordReadBack
 mod WrittenScripts

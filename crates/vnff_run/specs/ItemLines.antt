@@ -3,7 +3,6 @@ use Rattle.std.specs.Prelude.{ℕ, if◌then◌else◌, List, [], ◌∷◌, cod
 use Rattle.std.specs.Str.{bytes_eq}
 use Rattle.vnff_run.specs.Results.{◌>>=◌}
 use Rattle.vnff_run.specs.Words.{bytes_within, number_within}
-use Rattle.vnff_run.specs.declared.script.AdminLine.{AdminLine}
 use Rattle.vnff_run.specs.declared.script.Item.{Item}
 use Rattle.vnff_run.specs.declared.script.Item.TheVariants.{Admin, Frame}
 use Rattle.vnff_run.specs.declared.script.Reason.{Reason}

@@ -1,3 +1,4 @@
+pub mod CompileTexts
 pub mod DeviceFiles
 pub mod DeviceLines
 pub mod Endings
@@ -6,6 +7,7 @@ pub mod Grammar
 pub mod Inputs
 pub mod ItemLines
 pub mod Outcomes
+pub mod Programs
 pub mod Readings
 pub mod Replay
 pub mod Results
@@ -13,4 +15,7 @@ pub mod ScriptTexts
 pub mod SelectLines
 pub mod Spellable
 pub mod Steering
+pub mod TableInputs
+pub mod TableRefusals
+pub mod Tables
 pub mod Words

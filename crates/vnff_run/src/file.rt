@@ -14,7 +14,7 @@ use vnff_base::{List, ReadErr, Shelf, read_all};
 const FILE_LIMIT: u64 = 67_108_864;
 
 /// The bytes of a file that is to be one of this kind.
-fn bytes_in<S: Shelf>(
+pub(crate) fn bytes_in<S: Shelf>(
     alloc: Global,
     kind: FileKind,
     name: &str,

@@ -8,6 +8,10 @@ ghost use Rattle.vnff_run.specs.Forms.{form_of, form_view};
 pub enum Form<'a> {
     /// `replay SCRIPT`: run a script's lines in order.
     Replay(&'a str),
+    /// `compile DEVICE TABLE`: compile a table for a device.
+    Compile(&'a str, &'a str),
+    /// `table DEVICE TABLE CAPTURE`: compile a table for a device, and classify the frames of a capture.
+    Table(&'a str, &'a str, &'a str),
 }
 
 /// The form of the words, which are those behind the program's own name.
@@ -17,6 +21,14 @@ pub fn form_of(words: &[String]) -> Option<Form<'_>>
 {
     match words {
         [form, script] if form.as_str() == "replay" => Some(Form::Replay(script.as_str())),
+        [form, device, table] if form.as_str() == "compile" => {
+            Some(Form::Compile(device.as_str(), table.as_str()))
+        }
+        [form, device, table, capture] if form.as_str() == "table" => Some(Form::Table(
+            device.as_str(),
+            table.as_str(),
+            capture.as_str(),
+        )),
         _ => None,
     }
 }

@@ -23,6 +23,9 @@
 //! stand in `proofs/Rows.antt`, faulty texts in `proofs/GrammarExamples.antt`.
 #![tactic(auto)]
 
+mod compile;
+mod compile_text;
+mod compiled;
 mod device_line;
 mod ending;
 mod file;
@@ -36,6 +39,8 @@ mod script;
 mod select_line;
 mod steering;
 mod stop;
+mod table;
+mod table_refusal;
 mod text;
 mod word;
 
