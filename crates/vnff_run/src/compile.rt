@@ -1,6 +1,5 @@
 //! The form `compile DEVICE TABLE`: the script that a table is compiled to.
 
-ghost use Rattle.std.specs.Prelude.{◌≡◌};
 ghost use Rattle.vnff_run.specs.Endings.{FormEnds, RunsAs};
 ghost use Rattle.vnff_run.specs.CompileTexts.{compile_text};
 ghost use Rattle.vnff_run.specs.Forms.{Compile};

@@ -1,6 +1,6 @@
 //! The script that a table is compiled to, put to an output.
 
-ghost use Rattle.std.specs.Prelude.{◌≡◌, ◌∷◌, ◌++◌, All, codes, decimal};
+ghost use Rattle.std.specs.Prelude.{◌≡◌, ◌∷◌, ◌++◌, All, codes};
 ghost use Rattle.std.specs.Cmp.Lexicographic.{pointwise};
 ghost use Rattle.std.specs.List.{flat_map};
 ghost use Rattle.vnff_base.specs.Outputs.{Writes};
@@ -17,7 +17,7 @@ use crate::compiled::CompiledTable;
 use crate::table_refusal::{header_word, put_number};
 use admin_wire::{Command, put_command};
 use cap_table::DeviceCaps;
-use ff_headers::{Kind, Selector};
+use ff_headers::Selector;
 use ntuple_text::{Spec, Table, put_spec};
 use vnff_base::{Failed, Out, hex_put};
 

@@ -8,7 +8,7 @@ ghost use Rattle.ntuple_text.specs.TableLines.{table_of};
 ghost use Rattle.vnff_run.specs.DeviceFiles.{device_file_of};
 ghost use Rattle.vnff_run.specs.Endings.{Judges, ReadsInput};
 ghost use Rattle.vnff_run.specs.Inputs.{file_limit};
-ghost use Rattle.vnff_run.specs.TableInputs.{caps_in, caps_or_refusal, commands_or_refusal, compiled_for, compiled_in};
+ghost use Rattle.vnff_run.specs.TableInputs.{caps_in, caps_or_refusal, compiled_for, compiled_in};
 ghost use Rattle.vnff_run.specs.TableInputs.{frames_in, frames_or_refusal, table_in, table_or_refusal, table_run_in};
 ghost use Rattle.vnff_run.specs.Programs.{IsProgrammable, compile_stop, device_stop, table_stop};
 

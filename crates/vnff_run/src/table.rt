@@ -15,8 +15,7 @@ ghost use Rattle.vnff_run.specs.Endings.{FormEnds, RunsAs};
 ghost use Rattle.vnff_run.specs.Forms.{Table as TableForm};
 ghost use Rattle.vnff_run.specs.Outcomes.{done_outcome, outcome_in};
 ghost use Rattle.vnff_run.specs.Programs.{IsProgrammable, sent_command};
-ghost use Rattle.vnff_run.specs.Tables.{DoesAs, packet_line, table_line, table_text};
-ghost use Rattle.ff_headers.specs.declared.rule.Action.{Action as SomeAction};
+ghost use Rattle.vnff_run.specs.Tables.{DoesAs, table_line, table_text};
 
 use crate::compiled::{CompiledTable, table_run_in};
 use crate::stop::Stop;
