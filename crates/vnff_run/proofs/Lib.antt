@@ -1,4 +1,5 @@
 mod AnswerLemmas
+mod CompiledLines
 mod DrainLemmas
 mod DrainRows
 mod EndingLemmas
@@ -7,11 +8,14 @@ mod GrammarLemmas
 mod InputLemmas
 mod ItemBounds
 mod QueuePlaced
+mod PacketLemmas
 mod ReplayLemmas
 mod Rows
 mod ScriptReadBack
 mod SelectLemmas
+mod SentCommands
 mod SpelledLines
+mod TableInputLemmas
 mod TextLines
 mod WordReadBack
 mod WrittenScripts

@@ -1,6 +1,6 @@
 -- What calls did that were to bring about an outcome, or a part of it, where a read or a write may fail and memory may
 -- run out. Nothing but a failed read raises a shelf's count of failures, and nothing but a failed write an output's.
-use Rattle.std.specs.Prelude.{ℕ, ◌≡◌, List, take, IfSome, IsSomeAnd, Result, Ok, Err, ◌⊎◌}
+use Rattle.std.specs.Prelude.{ℕ, ◌≡◌, List, take, IfSome, IsSomeAnd, Result, Ok, Err, ◌⊎◌, ⊤}
 use Rattle.vnff_base.specs.Counts.{Rose}
 use Rattle.vnff_base.specs.Outputs.{OutputState, told_after, Wrote, Stopped}
 use Rattle.vnff_base.specs.Shelves.{Files, ShelfState}
@@ -67,6 +67,17 @@ ReadStops old new input stops.Memory = NoReadFailed old new
 abbrev pub ReadsInput : {A : Type 0} → ShelfState → ShelfState → (Files → Result A InputFault) → Result A Stop → Type 0
 ReadsInput old new input (Ok value) = NoReadFailed old new × IfSome old.files (λ files. input files ≡ Ok value)
 ReadsInput old new input (Err stop) = ReadStops old new input stop
+
+-- Why judging what was read stopped: it is refused, or memory ran out.
+abbrev pub JudgeStops : {A : Type 0} → Result A InputFault → Stop → Type 0
+JudgeStops judged (stops.Refused refusal) = judged ≡ Err (Refused refusal)
+JudgeStops judged stops.Memory = ⊤
+JudgeStops judged _ = ⊥
+
+-- A call that judges what was read gives what it is, or stops.
+abbrev pub Judges : {A : Type 0} → Result A InputFault → Result A Stop → Type 0
+Judges judged (Ok value) = judged ≡ Ok value
+Judges judged (Err stop) = JudgeStops judged stop
 
 -- The outcome is that an input is refused behind a text, and all of it was written.
 abbrev pub IsRefusedBehind : OutputState → OutputState → Outcome → Type 0

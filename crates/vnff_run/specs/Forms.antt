@@ -9,11 +9,17 @@ use Rattle.vnff_run.specs.declared.form.Form.TheVariants as forms
 -- what the words ask for; each file by its name
 pub data WordForm : Type 0 where
   Replay : (script : List ℕ) → WordForm
+  Compile : (device table : List ℕ) → WordForm
+  Table : (device table capture : List ℕ) → WordForm
   Drain : (image : List ℕ) → (place : Place) → WordForm
 
--- the form of the words: `replay SCRIPT`, or `drain IMAGE SIZE DESC AVAIL USED`
+-- the form of the words: `replay SCRIPT`, `compile DEVICE TABLE`, `table DEVICE TABLE CAPTURE`, or `drain IMAGE SIZE DESC
+-- AVAIL USED`
 unfoldable pub form_of : List (List ℕ) → Option WordForm
 form_of (form ∷ script ∷ []) = if bytes_eq form (codes "replay") then Some (Replay script) else None
+form_of (form ∷ device ∷ table ∷ []) = if bytes_eq form (codes "compile") then Some (Compile device table) else None
+form_of (form ∷ device ∷ table ∷ capture ∷ []) =
+    if bytes_eq form (codes "table") then Some (Table device table capture) else None
 form_of (form ∷ image ∷ size ∷ desc ∷ avail ∷ used ∷ []) =
     if bytes_eq form (codes "drain") then option_map (Drain image) (place_of size desc avail used) else None
 form_of _ = None
@@ -21,4 +27,6 @@ form_of _ = None
 -- a form as the code keeps it
 abbrev pub form_view : Form → WordForm
 form_view (forms.Replay script) = Replay script.now
+form_view (forms.Compile device table) = Compile device.now table.now
+form_view (forms.Table device table capture) = Table device.now table.now capture.now
 form_view (forms.Drain image place) = Drain image.now place

@@ -1,3 +1,4 @@
+pub mod CompileTexts
 pub mod DeviceFiles
 pub mod DeviceLines
 pub mod Drain
@@ -8,10 +9,14 @@ pub mod Grammar
 pub mod Inputs
 pub mod ItemLines
 pub mod Outcomes
+pub mod Programs
 pub mod Readings
 pub mod Replay
 pub mod Results
 pub mod ScriptTexts
 pub mod SelectLines
 pub mod Spellable
+pub mod TableInputs
+pub mod TableRefusals
+pub mod Tables
 pub mod Words

@@ -1,6 +1,6 @@
 //! Exit statuses, and the lines of refusals: what the end of a form is turned into.
 
-ghost use Rattle.std.specs.Prelude.{◌≡◌, decimal};
+ghost use Rattle.std.specs.Prelude.{◌≡◌};
 ghost use Rattle.vnff_base.specs.Outputs.{Writes};
 ghost use Rattle.vnff_run.specs.Drain.{setup_word};
 ghost use Rattle.vnff_run.specs.Endings.{IsStatusOf, WritesRefusal};
@@ -8,7 +8,9 @@ ghost use Rattle.vnff_run.specs.Outcomes.{fault_words, kind_word, reason_word, r
 
 use crate::script::Reason;
 use crate::stop::{FileKind, RefusedInput, Stop};
-use itoa::Buffer;
+use crate::table_refusal::{
+    put_capture_fault, put_number, put_past_limit, put_unsupported, table_reason_word,
+};
 use split_queue::SetupErr;
 use vnff_base::{Failed, Out};
 
@@ -74,7 +76,18 @@ fn put_refusal_words<O: Out>(out: &mut O, input: RefusedInput) -> Result<(), Fai
             out.put(kind_word(kind))?;
             out.put(b" too-long")
         }
-        RefusedInput::BadScript(line, reason) => put_fault(out, line, reason),
+        RefusedInput::BadScript(line, reason) => {
+            put_fault(out, FileKind::Script, line, reason_word(reason))
+        }
+        RefusedInput::BadDevice(line, reason) => {
+            put_fault(out, FileKind::Device, line, reason_word(reason))
+        }
+        RefusedInput::BadTable(line, reason) => {
+            put_fault(out, FileKind::Table, line, table_reason_word(reason))
+        }
+        RefusedInput::BadCapture(fault) => put_capture_fault(out, fault),
+        RefusedInput::Unsupported(loc, kind) => put_unsupported(out, loc, kind),
+        RefusedInput::PastLimit(limit, count) => put_past_limit(out, limit, count),
         RefusedInput::BadImage(fault) => {
             out.put(b"image ")?;
             out.put(setup_word(fault))
@@ -82,23 +95,16 @@ fn put_refusal_words<O: Out>(out: &mut O, input: RefusedInput) -> Result<(), Fai
     }
 }
 
-/// Writes which line of a script is bad, and why.
+/// Writes which line of a file is bad, and why.
 #[tactic(auto, unfolding(crate::specs::Outcomes::fault_words))]
-fn put_fault<O: Out>(out: &mut O, line: u32, reason: Reason) -> Result<(), Failed>
-    ensures { Writes (O.state out.old) (O.state out.new) (fault_words line reason) result }
+fn put_fault<O: Out>(out: &mut O, kind: FileKind, line: u32, reason: &[u8]) -> Result<(), Failed>
+    ensures { Writes (O.state out.old) (O.state out.new) (fault_words kind line reason.now) result }
 {
-    out.put(b"script:")?;
-    put_number(out, line)?;
+    out.put(kind_word(kind))?;
+    out.put(b":")?;
+    put_number(out, u64::from(line))?;
     out.put(b" ")?;
-    out.put(reason_word(reason))
-}
-
-/// Writes a number.
-fn put_number<O: Out>(out: &mut O, number: u32) -> Result<(), Failed>
-    ensures { Writes (O.state out.old) (O.state out.new) (decimal number) result }
-{
-    let mut buffer = Buffer::new();
-    out.put(buffer.format(number).as_bytes())
+    out.put(reason)
 }
 
 /// What a file was to be, in words.
@@ -107,6 +113,9 @@ fn kind_word(kind: FileKind) -> &'static [u8]
 {
     match kind {
         FileKind::Script => b"script",
+        FileKind::Device => b"device",
+        FileKind::Table => b"table",
+        FileKind::Capture => b"capture",
         FileKind::Image => b"image",
     }
 }

@@ -11,6 +11,10 @@ use split_queue::Place;
 pub enum Form<'a> {
     /// `replay SCRIPT`: run a script's lines in order.
     Replay(&'a str),
+    /// `compile DEVICE TABLE`: compile a table for a device.
+    Compile(&'a str, &'a str),
+    /// `table DEVICE TABLE CAPTURE`: compile a table for a device, and classify the frames of a capture.
+    Table(&'a str, &'a str, &'a str),
     /// `drain IMAGE SIZE DESC AVAIL USED`: write the chains of the queue at a place in an image of guest memory.
     Drain(&'a str, Place),
 }
@@ -22,6 +26,14 @@ pub fn form_of(words: &[String]) -> Option<Form<'_>>
 {
     match words {
         [form, script] if form.as_str() == "replay" => Some(Form::Replay(script.as_str())),
+        [form, device, table] if form.as_str() == "compile" => {
+            Some(Form::Compile(device.as_str(), table.as_str()))
+        }
+        [form, device, table, capture] if form.as_str() == "table" => Some(Form::Table(
+            device.as_str(),
+            table.as_str(),
+            capture.as_str(),
+        )),
         [form, image, size, desc, avail, used] if form.as_str() == "drain" => {
             let place = place_of(
                 size.as_bytes(),

@@ -1,9 +1,11 @@
-//! Scripts, what they print, and the program's call.
+//! Scripts and tables, what they print, and the program's call.
 //!
 //! [`plain`] is the call that the program makes. It reads the files that its words name from any shelf and writes lines
 //! to any output: of a script, each command goes through the ring of a bench, and each frame is searched in the bench's
-//! tables; of an image of guest memory, each chain of a split virtqueue is gathered. Bench and queue are those of the
-//! crates below; scripts, texts, statuses and limits are this project's own.
+//! tables; a table of flow steering rules is compiled to commands, which are written, or go through a bench in which the
+//! frames of a capture are searched; of an image of guest memory, each chain of a split virtqueue is gathered. Bench,
+//! queue, compiling and captures are those of the crates below; scripts, texts, statuses and limits are this project's
+//! own.
 //!
 //! What is promised, on `plain` itself: where the shelf tells its files and the output tells its bytes, the status and
 //! what was written are the outcome that is defined for the words and the files; a failed read or write, and want of
@@ -11,20 +13,25 @@
 //! text spells, or its first fault, and reads the canonical text of a script as that script.
 //!
 //! The way of a run: `form` (what the words ask for; `drain_words` has the place of a queue), a module for each form
-//! (`replay`, `drain`), which reads its files by `file` or `image` and runs, and `ending` (its status, and the line of
-//! a refusal); `stop` has why a form ends early. What is written is gathered by `text` and `drain_text`. Scripts are
-//! read by `grammar`, line by line: `device_line` (the first two lines), `select_line` and `item_line`, over the words
-//! that `word` reads.
+//! (`replay`, `compile`, `table`, `drain`), which reads its files by `file`, `compiled` (a device and its table) or
+//! `image` and runs, and `ending` (its status, and the line of a refusal); `stop` has why a form ends early, and
+//! `table_refusal` why tables and captures are refused. What is written is gathered by `text` and `drain_text`;
+//! `compile_text` writes the script of a compiled table. Scripts are read by `grammar`, line by line: `device_line` (the
+//! first two lines), `select_line` and `item_line`, over the words that `word` reads.
 //!
-//! Definitions, in specs/: `Forms` (of words), `Inputs` (what the files give, or what is at fault with them) and
-//! `Outcomes` (statuses and texts, form by form); `Grammar` (scripts), `DeviceLines`, `SelectLines` and `ItemLines`
-//! (their lines), `Words`; `DeviceFiles` (files of a device alone, which no form reads yet); `ScriptTexts`
-//! (canonical texts) and `Spellable` (which scripts have one); `Replay` (what a replay writes); `DrainWords` and
-//! `Drain` (the words behind `drain`, and what it finds and writes). `Readings`, `Endings` and `Results` are the code's
-//! own. The laws that stand on no other call are those of `laws`. Worked rows stand in `proofs/Rows.antt` and
-//! `proofs/DrainRows.antt`, faulty texts in `proofs/GrammarExamples.antt`.
+//! Definitions, in specs/: `Forms` (of words), `Inputs` and `TableInputs` (what the files give, or what is at fault with
+//! them) and `Outcomes` (statuses and texts, form by form); `Grammar` (scripts), `DeviceLines`, `SelectLines` and
+//! `ItemLines` (their lines), `Words`; `DeviceFiles` (files of a device alone); `ScriptTexts` (canonical texts) and
+//! `Spellable` (which scripts have one); `Replay`, `CompileTexts` and `Tables` (what the forms write), `TableRefusals`
+//! (the words of refusals), `DrainWords` and `Drain` (the words behind `drain`, and what it finds and writes).
+//! `Readings`, `Endings`, `Results` and `Programs` are the code's own. The laws that stand on no other call are those of
+//! `laws`. Worked rows stand in `proofs/Rows.antt` and `proofs/DrainRows.antt`, faulty texts in
+//! `proofs/GrammarExamples.antt`.
 #![tactic(auto)]
 
+mod compile;
+mod compile_text;
+mod compiled;
 mod device_line;
 mod drain;
 mod drain_text;
@@ -41,6 +48,8 @@ mod replay;
 mod script;
 mod select_line;
 mod stop;
+mod table;
+mod table_refusal;
 mod text;
 mod word;
 

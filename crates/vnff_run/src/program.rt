@@ -6,17 +6,19 @@ ghost use Rattle.vnff_run.specs.Endings.{ReadFailed, WhereTold, WriteFailed};
 ghost use Rattle.vnff_run.specs.Forms.{form_of, form_view};
 ghost use Rattle.vnff_run.specs.Outcomes.{outcome_in, outcome_of};
 
+use crate::compile::compile_table;
 use crate::drain::drain;
 use crate::ending::{FAULTY_WORDS, exit_status};
 use crate::form::{Form, form_of};
 use crate::replay::replay;
 use crate::stop::Stop;
+use crate::table::classify_by_table;
 use std::alloc::Global;
 use vnff_base::{Out, Shelf};
 
 /// Runs the program on its words, without its own name, and gives its exit status: 0 done, 1 an input was refused, 2
 /// the words are no form, 3 a read failed, 4 a write failed, 5 memory ran out. The forms that are built:
-/// `replay SCRIPT` and `drain IMAGE SIZE DESC AVAIL USED`.
+/// `replay SCRIPT`, `compile DEVICE TABLE`, `table DEVICE TABLE CAPTURE` and `drain IMAGE SIZE DESC AVAIL USED`.
 pub fn plain<S: Shelf, O: Out>(alloc: Global, words: &[String], shelf: &mut S, out: &mut O) -> u8
     ensures known { result ≤ 5 }
 
@@ -69,6 +71,10 @@ fn run<S: Shelf, O: Out>(
 {
     match form {
         Form::Replay(script) => replay(alloc, script, shelf, out),
+        Form::Compile(device, table) => compile_table(alloc, device, table, shelf, out),
+        Form::Table(device, table, capture) => classify_by_table(
+            alloc, device, table, capture, shelf, out,
+        ),
         Form::Drain(image, place) => drain(alloc, image, place, shelf, out),
     }
 }

@@ -5,6 +5,9 @@ ghost use Rattle.vnff_run.specs.declared.stop.Stop.TheVariants as stops;
 ghost use Rattle.vnff_run.specs.Endings.{script_stop};
 
 use crate::script::{Reason, ScriptFault};
+use crate::table_refusal::{TableLimit, TableReason};
+use capture::CaptureErr;
+use ff_headers::Kind;
 use split_queue::SetupErr;
 use std::alloc::AllocError;
 use vnff_base::Failed;
@@ -14,6 +17,12 @@ use vnff_base::Failed;
 pub enum FileKind {
     /// A script.
     Script,
+    /// A file of a device alone.
+    Device,
+    /// A table.
+    Table,
+    /// A capture.
+    Capture,
     /// An image of guest memory.
     Image,
 }
@@ -25,6 +34,16 @@ pub enum RefusedInput {
     TooLong(FileKind),
     /// A file is no script: the line, and the reason.
     BadScript(u32, Reason),
+    /// A file is none of a device alone: the line, and the reason.
+    BadDevice(u32, Reason),
+    /// A file is no table: the line, and the reason.
+    BadTable(u32, TableReason),
+    /// A file is no capture.
+    BadCapture(CaptureErr),
+    /// The device can't be asked for a selector of this kind, which the spec at this location needs.
+    Unsupported(u16, Kind),
+    /// A table needs so many, and the device has fewer.
+    PastLimit(TableLimit, u32),
     /// No queue can lie in an image where the words say.
     BadImage(SetupErr),
 }

@@ -1,8 +1,9 @@
-//! The lines that a replay writes, gathered before they are put to an output.
+//! The lines that forms write, gathered before they are put to an output.
 
 ghost use Rattle.std.specs.Prelude.{decimal};
 ghost use Rattle.vnff_base.specs.Gatherings.{Gathers};
 ghost use Rattle.vnff_run.specs.Replay.{action_text, frame_line, reply_line};
+ghost use Rattle.vnff_run.specs.Tables.{packet_line};
 
 use ff_headers::Action;
 use itoa::Buffer;
@@ -30,7 +31,7 @@ fn put_action<O: Out>(text: &mut Gathered, out: &mut O, action: Action) -> Resul
         Action::Drop => text.put(out, b"drop"),
         Action::Queue(queue) => {
             text.put(out, b"queue ")?;
-            put_number(text, out, queue as u64)
+            put_number(text, out, u64::from(queue))
         }
     }
 }
@@ -45,6 +46,23 @@ pub fn put_frame_line<O: Out>(
     ensures { Gathers (O.state out.old) (O.state out.new) text.old text.new (frame_line action) result }
 {
     text.put(out, b"frame ")?;
+    put_action(text, out, action)?;
+    text.put(out, b"\n")
+}
+
+/// Writes the line of a packet: `packet`, its number, its action, a line feed.
+#[tactic(auto, unfolding(crate::specs::Tables::packet_line))]
+pub fn put_packet_line<O: Out>(
+    text: &mut Gathered,
+    out: &mut O,
+    number: usize,
+    action: Action,
+) -> Result<(), Failed>
+    ensures { Gathers (O.state out.old) (O.state out.new) text.old text.new (packet_line number action) result }
+{
+    text.put(out, b"packet ")?;
+    put_number(text, out, number as u64)?;
+    text.put(out, b" ")?;
     put_action(text, out, action)?;
     text.put(out, b"\n")
 }

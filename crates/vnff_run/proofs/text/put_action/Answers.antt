@@ -9,4 +9,5 @@ returns-in_err-put-in-Queue g c =
 
 pub returns-in_ok-put-in-Queue : goal.returns-in_ok-put-in-Queue
 unfolding action_text
-returns-in_ok-put-in-Queue g c = rw c.in-Queue.is (gathers_after _ _ _ _ c.in_ok-put-in-Queue.ensures c.put_number.ensures)
+returns-in_ok-put-in-Queue g c =
+    rw (c.in-Queue.is, ← c.from.ensures) (gathers_after _ _ _ _ c.in_ok-put-in-Queue.ensures c.put_number.ensures)

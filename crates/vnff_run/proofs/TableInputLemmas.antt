@@ -1,0 +1,43 @@
+-- Reading an input in parts, of which one is read after another or judged.
+use Rattle.std.proofs.Common.{◌≡◌, Option, Some, None, Result, Ok, Err, ap, subst, ◌∙◌, inl, inr, ⊎_elim}
+use Rattle.std.specs.Prelude.{IfSome, IsSomeAnd}
+use Rattle.std.proofs.lemmas.Option.{IfSome_then}
+use Rattle.vnff_base.specs.Counts.{Rose}
+use Rattle.vnff_base.specs.Shelves.{Files, ShelfState}
+use Rattle.vnff_run.specs.Endings.{Judges, ReadsInput}
+use Rattle.vnff_run.specs.Inputs.{InputFault, Missing, Refused}
+use Rattle.vnff_run.specs.Results.{◌>>=◌}
+use Rattle.vnff_run.specs.declared.stop.Stop.{Stop}
+use Rattle.vnff_run.specs.declared.stop.Stop.TheVariants as stops
+
+-- a part was read, and what it gives is judged
+pub read_judged : {A B : Type 0} (shelf read : ShelfState) (part : Files → Result A InputFault) (next : A → Result B InputFault) (value : A) (result : Result B Stop) → ReadsInput shelf read part (Ok value) → Judges (next value) result → ReadsInput shelf read (λ files. part files >>= next) result
+read_judged shelf read part next value (Ok b) was judged =
+    (was.0, IfSome_then shelf.files was.1 (λ files is. ap (λ p. p >>= next) is ∙ judged))
+read_judged shelf read part next value (Err stops.ReadFault) was judged = absurd judged
+read_judged shelf read part next value (Err (stops.Refused refusal)) was judged =
+    (was.0, IfSome_then shelf.files was.1 (λ files is. ap (λ p. p >>= next) is ∙ judged))
+read_judged shelf read part next value (Err stops.WriteFault) was judged = absurd judged
+read_judged shelf read part next value (Err stops.Memory) was judged = was.0
+
+-- what holds of the told files before and behind a part
+both_told : {P Q R : Files → Type 0} (o : Option Files) → IfSome o P → IfSome o Q → ((files : Files) → P files → Q files → R files) → IfSome o R
+both_told None p q both = tt
+both_told (Some files) p q both = both files p q
+
+some_told : {P Q R : Files → Type 0} (o : Option Files) → IfSome o P → IsSomeAnd o Q → ((files : Files) → P files → Q files → R files) → IsSomeAnd o R
+some_told None p q both = q
+some_told (Some files) p q both = both files p q
+
+-- a part was read, and then the next one is
+pub read_then : {A B : Type 0} (shelf middle read : ShelfState) (part : Files → Result A InputFault) (next : A → Files → Result B InputFault) (value : A) (result : Result B Stop) → ReadsInput shelf middle part (Ok value) → middle.files ≡ shelf.files → ReadsInput middle read (next value) result → ReadsInput shelf read (λ files. part files >>= λ x. next x files) result
+read_then shelf middle read part next value (Ok b) was same then =
+    (then.0 ∙ was.0, both_told shelf.files was.1 (subst (λ o. IfSome o (λ files. next value files ≡ Ok b)) same then.1) (λ files is more. ap (λ p. p >>= λ x. next x files) is ∙ more))
+read_then shelf middle read part next value (Err stops.ReadFault) was same then =
+    ⊎_elim (λ rose. inl (subst (λ n. Rose n read.faults) was.0 rose))
+    (λ missing. inr (some_told shelf.files was.1 (subst (λ o. IsSomeAnd o (λ files. next value files ≡ Err Missing)) same missing) (λ files is more. ap (λ p. p >>= λ x. next x files) is ∙ more)))
+    then
+read_then shelf middle read part next value (Err (stops.Refused refusal)) was same then =
+    (then.0 ∙ was.0, both_told shelf.files was.1 (subst (λ o. IfSome o (λ files. next value files ≡ Err (Refused refusal))) same then.1) (λ files is more. ap (λ p. p >>= λ x. next x files) is ∙ more))
+read_then shelf middle read part next value (Err stops.WriteFault) was same then = absurd then
+read_then shelf middle read part next value (Err stops.Memory) was same then = then ∙ was.0
