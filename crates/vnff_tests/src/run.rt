@@ -62,6 +62,24 @@ fn ends_where_the_first_write_fails(rt: HostRuntime) -> Result<(), Fail> {
     Ok(())
 }
 
+// A ring of one descriptor, for a buffer of no bytes.
+#[test]
+fn drains_a_queue(rt: HostRuntime) -> Result<(), Fail> {
+    let alloc = rt.alloc();
+    let mut image = [0; 38];
+    image[18] = 1;
+    let mut shelf = MemShelf::new(alloc);
+    shelf.add("image", &image)?;
+    let mut out = MemOut::new(alloc, 64)?;
+    let mut words = Vec::new(alloc);
+    for word in ["drain", "image", "1", "0", "16", "24"] {
+        words.push(String::from_str(alloc, word)?)?;
+    }
+    assert_eq!(rt; plain(alloc, words.as_slice(), &mut shelf, &mut out), DONE);
+    assert_eq!(rt; out.bytes(), b"chain 0 - 0\nend 1\n".as_slice());
+    Ok(())
+}
+
 #[test]
 fn reads_a_script(rt: HostRuntime) -> Result<(), Fail> {
     let text =
