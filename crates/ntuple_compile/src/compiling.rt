@@ -1,15 +1,8 @@
 //! Stub of the call.
 
-ghost use Rattle.std.specs.Prelude.{◌≡◌, ◌⊎◌, ℕ, List, All, IfOk, MatchResult, Ok, Err};
-ghost use Rattle.vnff_base.specs.Bytes.{IsBytes};
-ghost use Rattle.ff_headers.specs.Frames.{headers_of};
-ghost use Rattle.ff_headers.specs.Places.{action_of};
-ghost use Rattle.cap_table.specs.States.{start_state};
-ghost use Rattle.cap_table.specs.Steps.{state_after};
-ghost use Rattle.cap_table.specs.declared.start.Start.TheVariants as starts;
-ghost use Rattle.ntuple_compile.specs.Acceptance.{AreSent, CanBePut};
+ghost use Rattle.std.specs.Prelude.{◌≡◌, ◌⊎◌, All, IfOk, MatchResult, Ok, Err};
+ghost use Rattle.ntuple_compile.specs.Acceptance.{ActAs, IsWritable};
 ghost use Rattle.ntuple_compile.specs.Compiled.{compiled};
-ghost use Rattle.ntuple_compile.specs.SpecFits.{table_action};
 
 use crate::error::CompileErr;
 use admin_wire::Command;
@@ -29,13 +22,10 @@ pub fn compile(
         (λ err. (err ≡ CompileErr.Memory) ⊎ (compiled table.now caps.now ≡ Err err)) }
 
     // A ready device that is sent the commands does with every frame what the table says.
-    ensures acts { IfOk result (λ commands. (sent : List (List ℕ × ℕ)) → AreSent commands sent
-        → (frame : List ℕ) → IsBytes frame
-        → action_of (state_after (start_state caps.now starts.Ready) sent).objects (headers_of frame)
-        ≡ table_action table.now (headers_of frame)) }
+    ensures acts { IfOk result (λ commands. ActAs caps.now commands table.now) }
 
     // Each command can be written.
-    ensures written { IfOk result (λ commands. All CanBePut commands) }
+    ensures written { IfOk result (λ commands. All IsWritable commands) }
 {
     Err(CompileErr::Memory)
 }
