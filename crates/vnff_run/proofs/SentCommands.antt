@@ -27,8 +27,8 @@ state_is_sent start state next commands i command left within is moved =
     ∙ ap (state_after start) (sym (sent_more (take i commands) command) ∙ ap (map sent_command) (ap (λ x. take i commands ++ x ∷ []) is ∙ sym (take_more commands i command within)))
 
 are_sent_more : (commands : List Command) (command : Command) → AreSent commands (map sent_command commands) → Reads (command_bytes command) command → AreSent (commands ++ command ∷ []) (map sent_command (commands ++ command ∷ []))
-are_sent_more [] command sent reads = (reads, omega arith, tt)
-are_sent_more (first ∷ commands) command sent reads = (sent.0, sent.1, are_sent_more commands command sent.2 reads)
+are_sent_more [] command sent reads = ((reads, omega arith), tt)
+are_sent_more (first ∷ commands) command sent reads = (sent.0, are_sent_more commands command sent.1 reads)
 
 pub are_sent : (commands : List Command) (i : ℕ) (command : Command) → AreSent (take i commands) (map sent_command (take i commands)) → i < length commands → command ≡ get_or commands i command → Reads (command_bytes command) command → AreSent (take (i + 1) commands) (map sent_command (take (i + 1) commands))
 are_sent commands i command sent within is reads =

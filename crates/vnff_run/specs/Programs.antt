@@ -5,20 +5,16 @@ use Rattle.ff_headers.specs.SelectorParts.{SelectorParts}
 use Rattle.admin_wire.specs.Layouts.{command_bytes}
 use Rattle.admin_wire.specs.declared.command.Command.{Command}
 use Rattle.cap_table.specs.Caps.{CapsParts}
-use Rattle.cap_table.specs.States.{start_state}
-use Rattle.cap_table.specs.Steps.{state_after}
-use Rattle.cap_table.specs.declared.start.Start.TheVariants.{Ready}
 use Rattle.ntuple_text.specs.declared.error.TextErr.{TextErr}
 use Rattle.ntuple_text.specs.declared.error.TextErr.TheVariants as text
 use Rattle.ntuple_text.specs.declared.spec.Spec.{Spec}
-use Rattle.ntuple_compile.specs.Acceptance.{AreSent, CanBePut}
+use Rattle.ntuple_compile.specs.Acceptance.{ActAs, IsWritable, SentCommand}
 use Rattle.ntuple_compile.specs.declared.error.CompileErr.{CompileErr}
 use Rattle.ntuple_compile.specs.declared.error.CompileErr.TheVariants as errors
 use Rattle.vnff_run.specs.CompileTexts.{comment_line, reply_room}
 use Rattle.vnff_run.specs.Inputs.{InputFault, Missing, Refused}
 use Rattle.vnff_run.specs.ScriptTexts.{line_text, select_words}
 use Rattle.vnff_run.specs.TableInputs.{compile_fault, table_fault}
-use Rattle.vnff_run.specs.Tables.{DoesAs}
 use Rattle.vnff_run.specs.declared.compiled.CompiledTable.{CompiledTable}
 use Rattle.vnff_run.specs.declared.script.ScriptFault.{ScriptFault}
 use Rattle.vnff_run.specs.declared.script.ScriptFault.TheVariants as faults
@@ -27,14 +23,13 @@ use Rattle.vnff_run.specs.declared.stop.Stop.{Stop}
 use Rattle.vnff_run.specs.declared.stop.Stop.TheVariants as stops
 
 -- a command as it is sent: its bytes, and the room for its reply
-abbrev pub sent_command : Command → List ℕ × ℕ
+abbrev pub sent_command : Command → SentCommand
 sent_command command = (command_bytes command, reply_room)
 
 -- The commands of a compiled table can be written, and bring a device that starts ready to do what the table says.
 pub record IsProgrammable (run : CompiledTable) : Type 0 where
-  pub written : All CanBePut run.commands
-  pub acts : (sent : List (List ℕ × ℕ)) → AreSent run.commands sent
-      → DoesAs (state_after (start_state run.caps Ready) sent).objects run.table
+  pub written : All IsWritable run.commands
+  pub acts : ActAs run.caps run.commands run.table
 
 -- a fault of an input, as it ends a form
 abbrev pub fault_stop : InputFault → Stop

@@ -6,7 +6,7 @@ ghost use Rattle.std.specs.List.{flat_map};
 ghost use Rattle.vnff_base.specs.Outputs.{Writes};
 ghost use Rattle.cap_table.specs.Caps.{all_selectors};
 ghost use Rattle.cap_table.specs.declared.start.Start.TheVariants as starts;
-ghost use Rattle.ntuple_compile.specs.Acceptance.{CanBePut};
+ghost use Rattle.ntuple_compile.specs.Acceptance.{IsWritable};
 ghost use Rattle.ntuple_compile.specs.SpecFits.{specs_of};
 ghost use Rattle.vnff_run.specs.CompileTexts.{command_line, comment_line, compile_text, device_text};
 ghost use Rattle.vnff_run.specs.Programs.{IsProgrammable, device_numbers, selector_line, slot_line, spaced_number};
@@ -172,7 +172,7 @@ fn put_comment<O: Out>(out: &mut O, spec: &Spec) -> Result<(), Failed>
 
 /// Writes a line for each command.
 fn put_commands<O: Out>(out: &mut O, commands: &[Command]) -> Result<(), Failed>
-    requires { All CanBePut commands.now }
+    requires { All IsWritable commands.now }
     ensures { Writes (O.state out.old) (O.state out.new) (flat_map command_line commands.now) result }
 {
     for command in commands {
@@ -183,7 +183,7 @@ fn put_commands<O: Out>(out: &mut O, commands: &[Command]) -> Result<(), Failed>
 
 /// Writes the line of a command.
 fn put_command_line<O: Out>(out: &mut O, command: &Command) -> Result<(), Failed>
-    requires { CanBePut command.now }
+    requires { IsWritable command.now }
     ensures { Writes (O.state out.old) (O.state out.new) (command_line command.now) result }
 {
     out.put(b"admin ")?;

@@ -8,7 +8,7 @@ ghost use Rattle.admin_wire.specs.Wire.{Reads};
 ghost use Rattle.cap_table.specs.States.{start_state};
 ghost use Rattle.cap_table.specs.Steps.{next_state, state_after};
 ghost use Rattle.cap_table.specs.declared.start.Start.TheVariants as starts;
-ghost use Rattle.ntuple_compile.specs.Acceptance.{AreSent, CanBePut};
+ghost use Rattle.ntuple_compile.specs.Acceptance.{AreSent, IsWritable};
 ghost use Rattle.ntuple_text.specs.TableMaps.{TableMap};
 ghost use Rattle.vnff_run.specs.CompileTexts.{reply_room};
 ghost use Rattle.vnff_run.specs.Endings.{FormEnds, RunsAs};
@@ -66,7 +66,7 @@ fn classify_all<O: Out>(
 
 /// A device that was sent the commands.
 fn programmed(alloc: Global, caps: DeviceCaps, commands: &[Command]) -> Result<Bench, AllocError>
-    requires { All CanBePut commands.now }
+    requires { All IsWritable commands.now }
     ensures state { IfOk result (λ bench.
         bench.device ≡ state_after (start_state caps starts.Ready) (map sent_command commands.now)) }
     ensures sent { IfOk result (λ _. AreSent commands.now (map sent_command commands.now)) }
@@ -78,7 +78,7 @@ fn programmed(alloc: Global, caps: DeviceCaps, commands: &[Command]) -> Result<B
 
 /// Sends commands to a device, in order.
 fn send_all(bench: &mut Bench, commands: &[Command])
-    requires { All CanBePut commands.now }
+    requires { All IsWritable commands.now }
     ensures state { bench.new.device ≡ state_after bench.old.device (map sent_command commands.now) }
     ensures sent { AreSent commands.now (map sent_command commands.now) }
 {
@@ -90,7 +90,7 @@ fn send_all(bench: &mut Bench, commands: &[Command])
 /// Sends a command to a device. A ready device obeys each command of a table that is compiled for it, so the reply says
 /// nothing new.
 fn send(bench: &mut Bench, command: &Command)
-    requires { CanBePut command.now }
+    requires { IsWritable command.now }
     ensures state { bench.new.device ≡ next_state bench.old.device (command_bytes command.now) reply_room }
     ensures sent { Reads (command_bytes command.now) command.now }
 {
