@@ -16,6 +16,7 @@ mod SelectLemmas
 mod SentCommands
 mod SpelledLines
 mod TableInputLemmas
+mod TableRows
 mod TextLines
 mod WordReadBack
 mod WrittenScripts
