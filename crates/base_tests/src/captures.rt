@@ -9,10 +9,10 @@ use std::process::Abort;
 use std::test::Fail;
 use vnff_base::MemOut;
 
-const FRAME: [u8; 14] = [255, 255, 255, 255, 255, 255, 2, 0, 0, 0, 0, 1, 8, 0];
+pub const FRAME: [u8; 14] = [255, 255, 255, 255, 255, 255, 2, 0, 0, 0, 0, 1, 8, 0];
 
 /// A capture of the frame: little endian, microseconds.
-const CAPTURE: [u8; 54] = [
+pub const CAPTURE: [u8; 54] = [
     0xd4, 0xc3, 0xb2, 0xa1, 2, 0, 4, 0, 0, 0, 0, 0, 0, 0, 0, 0, 0, 0, 4, 0, 1, 0, 0, 0, // header
     0, 0, 0, 0, 0, 0, 0, 0, 14, 0, 0, 0, 14, 0, 0, 0, // record
     255, 255, 255, 255, 255, 255, 2, 0, 0, 0, 0, 1, 8, 0,

@@ -16,6 +16,8 @@ mod outputs;
 #[cfg(test)]
 mod queue;
 #[cfg(test)]
+mod sinks;
+#[cfg(test)]
 mod tables;
 #[cfg(test)]
 mod words;

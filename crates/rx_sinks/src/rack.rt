@@ -32,6 +32,13 @@ impl Rack {
         Rack { sinks }
     }
 
+    /// The number of queues, each with its sink.
+    pub fn queue_count(&self) -> usize
+        ensures { result ≡ length (⟦<Rack as SinkList>⟧.sinks self.now) }
+    {
+        self.sinks.len()
+    }
+
     /// Delivers a frame of at most 262,144 bytes to the sink of a queue, and to no other. The failure is that sink's.
     pub fn deliver(&mut self, queue: u16, frame: &[u8]) -> Result<(), Failed>
         requires queue { queue < length (⟦<Rack as SinkList>⟧.sinks self.old) }
