@@ -1,7 +1,7 @@
 -- Captures that are read are a good header and a record for each frame, such captures are read, and what is written is one.
-use Rattle.std.proofs.Common.{◌≡◌, ℕ, ◌≤◌, false, List, [], ◌∷◌, length, take, drop, Ok, All, refl, ap, sym, ◌∙◌, arith, ltb-false}
+use Rattle.std.proofs.Common.{◌≡◌, ℕ, ◌≤◌, Bool, false, List, [], ◌∷◌, length, take, drop, Ok, All, refl, ap, sym, ◌∙◌, arith, ltb-false}
 use Rattle.std.proofs.lemmas.List.{take-append-drop, length-take-le, drop_at, append_assoc}
-use Rattle.std.proofs.lemmas.List.Elements.{All-head, All-tail}
+use Rattle.std.proofs.lemmas.List.Elements.{All-head, All-tail, All-nil, All-cons}
 use Rattle.std.proofs.lemmas.Nat.{from_le_bytes-to_le_bytes_4}
 use Rattle.std.specs.List.{flat_map}
 use Rattle.byte_numbers.specs.Numbers.{le16_at, le32_at, be16_at, be32_at}
@@ -57,3 +57,12 @@ pub capture-written : (frames : List (List ℕ)) → All (λ frame. length frame
 unfolding capture_text
 capture-written frames short =
     (record { big = false; nanos = false }, header_text, flat_map record_text frames, header-written, refl, records-written frames short)
+
+-- The frames of records are short, and so are those of a capture.
+records-short : (big : Bool) (bytes : List ℕ) (frames : List (List ℕ)) → AreRecords big bytes frames → All (λ frame. length frame ≤ 262144) frames
+records-short big bytes [] none = All-nil (λ f. length f ≤ 262144)
+records-short big bytes (frame ∷ frames) (head, rest, good, split, behind) =
+    All-cons (λ f. length f ≤ 262144) frame frames good.within (records-short big rest frames behind)
+
+pub capture-short : (bytes : List ℕ) (frames : List (List ℕ)) → IsCapture bytes frames → All (λ frame. length frame ≤ 262144) frames
+capture-short bytes frames (kind, header, rest, good, split, records) = records-short kind.big rest frames records

@@ -2,6 +2,7 @@
 
 ghost use Rattle.std.specs.Prelude.{◌≡◌, ◌≤◌, ◌==◌, ◌↔◌, List, ℕ, [], ◌∷◌, ◌++◌, length, slice_get, slice_index, IsNone, IfOk, OnOk, OnErr};
 ghost use Rattle.std.specs.Option.{option_copied};
+ghost use Rattle.capture.specs.Pieces.{pieces, ArePlaces};
 
 use std::alloc::{AllocError, Global};
 use std::marker::Model;
@@ -83,13 +84,23 @@ impl Frames {
         ensures item { option_copied result ≡ slice_get self.now place }
         ensures past { IsNone result ↔ (length self.now ≤ place) }
     {
-        if place >= self.len() {
-            return None;
-        }
-        let from = start_of(&self.ends, place);
-        let to = self.ends[place];
-        Some(&self.bytes[from..to])
+        piece_at(&self.bytes, &self.ends, place)
     }
+}
+
+/// The piece at a place, counted from 0, of bytes that are cut where each piece ends.
+#[tactic(auto, using(crate::proofs::PieceLemmas::piece_facts))]
+pub fn piece_at<'a>(bytes: &'a [u8], ends: &[usize], place: usize) -> Option<&'a [u8]>
+    requires { ArePlaces bytes.now (0 ∷ ends.now) }
+    ensures item { option_copied result ≡ slice_get (pieces bytes.now (0 ∷ ends.now)) place }
+    ensures past { IsNone result ↔ (length ends.now ≤ place) }
+{
+    if place >= ends.len() {
+        return None;
+    }
+    let from = start_of(ends, place);
+    let to = ends[place];
+    Some(&bytes[from..to])
 }
 
 /// Where a frame begins: at the end of the one before it.

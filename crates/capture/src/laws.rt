@@ -22,3 +22,9 @@ pub fn what_is_written_is_a_capture()
     ensures { (frames : List (List ℕ)) → All (λ frame. length frame ≤ 262144) frames
         → IsCapture (capture_text frames) frames }
 {}
+
+/// The frames of a capture have at most 262,144 bytes each.
+pub fn frames_of_a_capture_are_short()
+    ensures { (bytes : List ℕ) (frames : List (List ℕ)) → IsCapture bytes frames
+        → All (λ frame. length frame ≤ 262144) frames }
+{}

@@ -28,7 +28,7 @@ mod writing;
 
 pub use error::{CaptureErr, FramesErr};
 pub use feed::Feed;
-pub use frames::Frames;
+pub use frames::{Frames, piece_at};
 pub use header::{CaptureHeader, read_header};
 pub use reading::read_frames;
 pub use record::next_frame;

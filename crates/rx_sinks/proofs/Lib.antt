@@ -1,0 +1,3 @@
+pub mod CaptureSinkLemmas
+pub mod MemSinkLemmas
+pub mod RackLemmas

@@ -1,0 +1,5 @@
+pub mod CaptureSinks
+pub mod CountSinks
+pub mod MemSinks
+pub mod Racks
+pub mod Sinks
