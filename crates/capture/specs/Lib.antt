@@ -1,3 +1,4 @@
+pub mod Sizes
 pub mod FileHeaders
 pub mod Records
 pub mod Captures

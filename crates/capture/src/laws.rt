@@ -2,6 +2,7 @@
 
 ghost use Rattle.std.specs.Prelude.{◌≡◌, ◌↔◌, ◌≤◌, ◌⊎◌, ℕ, List, length, All, Ok, Err};
 ghost use Rattle.capture.specs.declared.error.CaptureErr.{CaptureErr};
+ghost use Rattle.capture.specs.Sizes.{longest_frame};
 ghost use Rattle.capture.specs.FileHeaders.{header_of};
 ghost use Rattle.capture.specs.Captures.{capture_of, capture_text, IsCapture, IsCaptureBad, IsRecordFault};
 
@@ -19,12 +20,12 @@ pub fn a_fault_is_the_first()
 
 /// What is written of frames is a capture of these frames.
 pub fn what_is_written_is_a_capture()
-    ensures { (frames : List (List ℕ)) → All (λ frame. length frame ≤ 262144) frames
+    ensures { (frames : List (List ℕ)) → All (λ frame. length frame ≤ longest_frame) frames
         → IsCapture (capture_text frames) frames }
 {}
 
 /// The frames of a capture have at most 262,144 bytes each.
 pub fn frames_of_a_capture_are_short()
     ensures { (bytes : List ℕ) (frames : List (List ℕ)) → IsCapture bytes frames
-        → All (λ frame. length frame ≤ 262144) frames }
+        → All (λ frame. length frame ≤ longest_frame) frames }
 {}
