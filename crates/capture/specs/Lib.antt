@@ -4,3 +4,4 @@ pub mod Records
 pub mod Captures
 pub mod Pieces
 pub mod Feeds
+pub mod Files

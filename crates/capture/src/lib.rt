@@ -16,6 +16,7 @@
 //! what is written.
 #![tactic(auto)]
 
+mod capture_file;
 mod error;
 mod feed;
 mod frames;
@@ -26,7 +27,8 @@ mod reading;
 mod record;
 mod writing;
 
-pub use error::{CaptureErr, FramesErr};
+pub use capture_file::read_capture;
+pub use error::{CaptureErr, CaptureReadErr, FramesErr};
 pub use feed::Feed;
 pub use frames::{Frames, piece_at};
 pub use header::{CaptureHeader, read_header};
