@@ -46,6 +46,10 @@ unfolding IsReadSoFar
 read-count told name at feed (bytes, size, stands, front) sound =
     stands-count feed bytes feed.header (subst (λ f. StandsBy f feed bytes) sound stands) ∙ size
 
+-- the same, by what the feed stands for
+pub feed-count : (feed : FeedState) (bytes : List ℕ) → StandsFor feed bytes → feed.fault ≡ None → feed.before + length feed.rest ≡ length bytes
+feed-count feed bytes stands sound = stands-count feed bytes feed.header (subst (λ f. StandsBy f feed bytes) sound stands)
+
 -- the end of the file
 pub read-whole : (first shelf : ShelfState) (name buffer : List ℕ) (at n limit : ℕ) (feed : FeedState) (said : Result (List (List ℕ)) CaptureErr) → shelf.files ≡ first.files → IsReadSoFar shelf.files name at feed → ReadsFile shelf name at n buffer → n ≡ 0 → 0 < length buffer → at ≤ limit → IsEnded feed said → WasRead first name limit said
 unfolding IsReadSoFar WasRead
