@@ -1,15 +1,17 @@
 -- What a feed stands for after a step, and what its end says.
-use Rattle.std.proofs.Common.{◌≡◌, ℕ, ◌+◌, ◌<◌, ◌≤◌, Bool, true, false, inl, inr, List, [], ◌∷◌, ◌++◌, length, take, drop, Option, Some, None, is_some, Ok, Err, refl, ap, sym, ◌∙◌, subst, arith, lt-ltb}
+use Rattle.std.proofs.Common.{◌≡◌, ℕ, ◌+◌, ◌<◌, ◌≤◌, Bool, true, false, inl, inr, List, [], ◌∷◌, ◌++◌, length, take, drop, Option, Some, None, is_some, ◌⊎◌, Ok, Err, refl, ap, sym, ◌∙◌, subst, arith, lt-ltb}
 use Rattle.std.proofs.lemmas.Bool.{cond-true}
 use Rattle.std.proofs.lemmas.List.{take-append-drop, length-append, length-take-le, length-drop, append_assoc, append-nil}
 use Rattle.std.proofs.Math.Seq.{take-append-add}
+use Rattle.std.specs.List.{concat}
 use Rattle.capture.specs.declared.error.CaptureErr.{CaptureErr}
 use Rattle.capture.specs.declared.error.CaptureErr.TheVariants.{Truncated, TooLong}
 use Rattle.capture.specs.declared.header.CaptureHeader.{CaptureHeader}
+use Rattle.capture.specs.Sizes.{longest_record}
 use Rattle.capture.specs.FileHeaders.{header_of}
 use Rattle.capture.specs.Records.{with_front, frame_of}
 use Rattle.capture.specs.Captures.{capture_of}
-use Rattle.capture.specs.Feeds.{FeedState, IsCutAt, StandsBy, StandsSound, StandsFor, WereCut, is_lasting}
+use Rattle.capture.specs.Feeds.{FeedState, IsCutAt, StandsBy, StandsSound, StandsFor, AreFed, WereCut, is_lasting}
 use Rattle.capture.proofs.CaptureLemmas.{capture_of-header, capture_of-bad_header}
 use Rattle.capture.proofs.CaptureLaws.{header_of-whole}
 use Rattle.capture.proofs.RecordLemmas.{records_of-bad, records_of-end}
@@ -38,13 +40,20 @@ module _ (kind : CaptureHeader) (front bytes : List ℕ) (before at : ℕ) (old 
   whole : front ++ bytes ≡ longer ++ drop at bytes
   whole = sym (append_assoc front (take at bytes) (drop at bytes) ∙ ap (λ xs. front ++ xs) (take-append-drop at bytes))
 
-  pub cut-stands : IsCutAt (record { header = Some kind; frames = new; before = before + at; rest = drop at bytes; fault = None }) kind (front ++ bytes) longer
-  cut-stands = record {
+  -- a fault that a later byte can heal is a record that is cut short
+  is-cut : is_lasting stop ≡ false → frame_of kind.big (before + at) (drop at bytes) ≡ Err (Truncated (before + at))
+  is-cut not = elim (record-fault kind.big (before + at) (drop at bytes) stop cut.stops) [
+    | inl over ↦ let lasting : is_lasting stop ≡ true = ap is_lasting over.2 in absurd (let both = not in cc)
+    | inr part ↦ cut.stops ∙ ap Err part.1
+  ]
+
+  pub cut-stands : is_lasting stop ≡ false → IsCutAt (record { header = Some kind; frames = new; before = before + at; rest = drop at bytes; fault = None }) kind (front ++ bytes) longer
+  cut-stands not = record {
     whole = whole;
     size = longer-size;
     is_header = longer-header;
     is_capture = longer-capture;
-    no_record = λ frame read. let bad = cut.stops in cc;
+    is_cut = is-cut not;
   }
 
   pub cut-faulty : is_lasting stop ≡ true → (later : List ℕ) → capture_of ((front ++ bytes) ++ later) ≡ Err stop
@@ -83,30 +92,35 @@ module _ (feed : FeedState) (kind : CaptureHeader) (bytes front : List ℕ) (cut
       let is : feed.rest ≡ [] = no_bytes feed.rest none in
       ap capture_of (cut.whole ∙ ap (λ xs. front ++ xs) is ∙ append-nil front) ∙ cut.is_capture
 
-  pub end-cut : (fault : CaptureErr) → 0 < length feed.rest → frame_of kind.big feed.before feed.rest ≡ Err fault → capture_of bytes ≡ Err fault
-  end-cut fault some bad =
-      let here = subst (λ n. frame_of kind.big n feed.rest ≡ Err fault) (sym cut.size) bad in
+  pub end-cut : 0 < length feed.rest → capture_of bytes ≡ Err (Truncated feed.before)
+  end-cut some =
+      let here = subst (λ n. frame_of kind.big n feed.rest ≡ Err (Truncated feed.before)) (sym cut.size) cut.is_cut in
       ap capture_of cut.whole ∙ capture_of-behind kind front feed.frames feed.rest cut.is_header cut.is_capture
-      ∙ ap (with_front feed.frames) (records_of-bad kind.big (length front) feed.rest fault some here)
+      ∙ ap (with_front feed.frames) (records_of-bad kind.big (length front) feed.rest (Truncated feed.before) some here)
 
 pub end-of_fault : (feed : FeedState) (bytes : List ℕ) (fault : CaptureErr) → feed.fault ≡ Some fault → StandsFor feed bytes → Err fault ≡ capture_of bytes
 end-of_fault feed bytes fault is stands = sym (end-faulty bytes fault (subst (λ f. StandsBy f feed bytes) is stands))
 
-pub end-of_short : (feed : FeedState) (bytes : List ℕ) → feed.fault ≡ None → feed.header ≡ None → StandsFor feed bytes → Err (Truncated 0) ≡ capture_of bytes
-end-of_short feed bytes sound none stands =
-    let both : StandsSound None feed bytes = subst (λ h. StandsSound h feed bytes) none (subst (λ f. StandsBy f feed bytes) sound stands) in
-    sym (end-short bytes (rw both.0 both.1))
+pub end-of_whole : (feed : FeedState) (bytes : List ℕ) → feed.fault ≡ None → is_some feed.header ≡ true → length feed.rest ≡ 0 → StandsFor feed bytes → Ok feed.frames ≡ capture_of bytes
+end-of_whole feed bytes sound some none stands = by_header feed.header some (subst (λ f. StandsBy f feed bytes) sound stands)
+  where
+    by_header : (header : Option CaptureHeader) → is_some header ≡ true → StandsSound header feed bytes → Ok feed.frames ≡ capture_of bytes
+    by_header None some s = absurd (cc)
+    by_header (Some kind) some (front, cut) = sym (end-whole feed kind bytes front cut none)
 
-pub end-of_cut : (feed : FeedState) (bytes : List ℕ) (kind : CaptureHeader) (fault : CaptureErr) → feed.fault ≡ None → feed.header ≡ Some kind → 0 < length feed.rest → frame_of kind.big feed.before feed.rest ≡ Err fault → StandsFor feed bytes → Err fault ≡ capture_of bytes
-end-of_cut feed bytes kind fault sound known some bad stands =
-    let (front, cut) = subst (λ h. StandsSound h feed bytes) known (subst (λ f. StandsBy f feed bytes) sound stands) in
-    sym (end-cut feed kind bytes front cut fault some bad)
+pub end-of_cut : (feed : FeedState) (bytes : List ℕ) → feed.fault ≡ None → (feed.header ≡ None) ⊎ (0 < length feed.rest) → StandsFor feed bytes → Err (Truncated feed.before) ≡ capture_of bytes
+end-of_cut feed bytes sound some stands = by_header feed.header some (subst (λ f. StandsBy f feed bytes) sound stands)
+  where
+    by_header : (header : Option CaptureHeader) → (header ≡ None) ⊎ (0 < length feed.rest) → StandsSound header feed bytes → Err (Truncated feed.before) ≡ capture_of bytes
+    by_header None some (is, start, short) = sym (end-short bytes (rw is short) ∙ ap (λ n. Err (Truncated n)) (sym start))
+    by_header (Some kind) (inl none) s = absurd (cc)
+    by_header (Some kind) (inr more) (front, cut) = sym (end-cut feed kind bytes front cut more)
 
 -- a rest that may still become a record
-pub rest-short : (big : Bool) (at : ℕ) (rest : List ℕ) (fault : CaptureErr) → frame_of big at rest ≡ Err fault → is_lasting fault ≡ false → length rest ≤ 262159
+pub rest-short : (big : Bool) (at : ℕ) (rest : List ℕ) (fault : CaptureErr) → frame_of big at rest ≡ Err fault → is_lasting fault ≡ false → length rest < longest_record
 rest-short big at rest fault bad not = elim (record-fault big at rest fault bad) [
   | inl over ↦ let lasting : is_lasting fault ≡ true = ap is_lasting over.2 in absurd (let both = not in cc)
-  | inr part ↦ part.0
+  | inr part ↦ omega (arith, part.0)
 ]
 
 pub take-further : (bytes : List ℕ) (at n : ℕ) → at ≤ length bytes → take (at + n) bytes ≡ take at bytes ++ take n (drop at bytes)
@@ -149,6 +163,12 @@ step-without_header feed after piece sound none step bytes stands =
     let both : StandsSound None feed bytes = subst (λ h. StandsSound h feed bytes) none (subst (λ f. StandsBy f feed bytes) sound stands) in
     subst (λ xs. StandsFor after (xs ++ piece)) (sym both.0) step
 
-pub no_fault_yet : (fault : Option CaptureErr) → is_some fault ≡ false → fault ≡ None
-no_fault_yet None none = refl
-no_fault_yet (Some fault) none = absurd (cc)
+pub none_yet : {A : Type 0} (o : Option A) → is_some o ≡ false → o ≡ None
+none_yet None none = refl
+none_yet (Some x) none = absurd (cc)
+
+-- however a capture is cut into pieces
+pub fed-stands : (first last : FeedState) (front : List ℕ) (pieces : List (List ℕ)) → StandsFor first front → AreFed first last pieces → StandsFor last (front ++ concat pieces)
+fed-stands first last front [] stands same = subst (StandsFor last) (sym (append-nil front)) (subst (λ f. StandsFor f front) same stands)
+fed-stands first last front (piece ∷ pieces) stands (next, fed, more) =
+    subst (StandsFor last) (append_assoc front piece (concat pieces)) (fed-stands next last (front ++ piece) pieces (fed front stands) more)

@@ -9,3 +9,4 @@ pub mod RecordLemmas
 mod CaptureExamples
 pub mod FeedLaws
 pub mod FeedSteps
+pub mod FileSteps

@@ -2,6 +2,7 @@
 use Rattle.std.specs.Prelude.{◌≡◌, ℕ, zero, suc, ◌+◌, ◌≤◌, ◌==◌, Bool, if◌then◌else◌, nat_lt, List, [], ◌∷◌, ◌++◌, length, take, drop, Option, Some, None, Result, Ok, Err}
 use Rattle.capture.specs.declared.error.CaptureErr.{CaptureErr}
 use Rattle.capture.specs.declared.error.CaptureErr.TheVariants.{Truncated, TooLong}
+use Rattle.capture.specs.Sizes.{record_size, longest_frame}
 use Rattle.capture.specs.FileHeaders.{number32_at}
 
 infixl 10 ◌>>=◌
@@ -22,10 +23,10 @@ captured_length big bytes = number32_at big bytes 8
 -- the frame of the record that the bytes begin with, which stands at an offset, or the record's first fault
 unfoldable pub frame_of : Bool → ℕ → List ℕ → Result (List ℕ) CaptureErr
 frame_of big at bytes =
-    if nat_lt (length bytes) 16 then Err (Truncated at)
-    else if nat_lt 262144 (captured_length big bytes) then Err (TooLong at)
-    else if nat_lt (length bytes) (16 + captured_length big bytes) then Err (Truncated at)
-    else Ok (take (captured_length big bytes) (drop 16 bytes))
+    if nat_lt (length bytes) record_size then Err (Truncated at)
+    else if nat_lt longest_frame (captured_length big bytes) then Err (TooLong at)
+    else if nat_lt (length bytes) (record_size + captured_length big bytes) then Err (Truncated at)
+    else Ok (take (captured_length big bytes) (drop record_size bytes))
 
 -- the frame of the record at an offset of the file, and None at the file's end
 unfoldable pub next_of : Bool → List ℕ → ℕ → Result (Option (List ℕ)) CaptureErr
@@ -39,7 +40,7 @@ records_within n big at [] = Ok []
 records_within zero big at (b ∷ bs) = Ok []
 records_within (suc n) big at (b ∷ bs) =
     frame_of big at (b ∷ bs) >>= λ frame.
-    (records_within n big (at + (16 + length frame)) (drop (16 + length frame) (b ∷ bs)) >>= λ frames.
+    (records_within n big (at + (record_size + length frame)) (drop (record_size + length frame) (b ∷ bs)) >>= λ frames.
     Ok (frame ∷ frames))
 
 -- the frames of the records that the bytes are, of which the first stands at an offset, or the first fault; a record has
@@ -53,9 +54,9 @@ with_front front read = map_ok (λ frames. front ++ frames) read
 
 -- The first 16 bytes of a frame's record.
 pub record IsRecordHead (big : Bool) (head frame : List ℕ) : Type 0 where
-  pub size : length head ≡ 16
+  pub size : length head ≡ record_size
   pub captured : captured_length big head ≡ length frame
-  pub within : length frame ≤ 262144
+  pub within : length frame ≤ longest_frame
 
 -- The bytes are a record for each frame, in order.
 abbrev pub AreRecords : Bool → List ℕ → List (List ℕ) → Type 0

@@ -33,3 +33,20 @@ pub enum FramesErr {
     #[error("out of memory")]
     Memory,
 }
+
+/// Why the capture that is a file wasn't read.
+#[derive(Clone, Copy, Debug, PartialEq, Eq, Error)]
+pub enum CaptureReadErr {
+    /// The shelf failed, or the file isn't there.
+    #[error("the file can't be read")]
+    ReadFault,
+    /// The file has more bytes than the limit.
+    #[error("the file is too long")]
+    TooLong,
+    /// The file is no capture.
+    #[error("{0}")]
+    Bad(CaptureErr),
+    /// Memory ran out.
+    #[error("out of memory")]
+    Memory,
+}

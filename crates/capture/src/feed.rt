@@ -1,10 +1,10 @@
 //! Captures that come in pieces, and are never held whole.
 
-ghost use Rattle.std.specs.Prelude.{◌≡◌, ◌+◌, ◌^◌, ◌<◌, ◌≤◌, ℕ, List, [], ◌++◌, Some, None, Ok, length, take, drop, IfOk};
+ghost use Rattle.std.specs.Prelude.{◌≡◌, ◌≢◌, ◌+◌, ◌^◌, ◌<◌, ◌≤◌, ℕ, List, [], ◌++◌, Some, None, Ok, length, take, drop, IfOk};
 ghost use Rattle.capture.specs.FileHeaders.{header_of};
 ghost use Rattle.capture.specs.Records.{map_ok, frame_of, AreRecords};
 ghost use Rattle.capture.specs.Captures.{capture_of};
-ghost use Rattle.capture.specs.Feeds.{StandsFor, WereCut, is_lasting};
+ghost use Rattle.capture.specs.Feeds.{StandsFor, IsFeed, IsFedOn, IsEnded, WereCut, is_lasting};
 
 use crate::error::CaptureErr;
 use crate::frames::Frames;
@@ -37,7 +37,13 @@ impl Model for Feed {
       fault = f.fault;
     } };
 
-    ghost invariant = { λ f. IsFeed f.header f.frames f.before f.rest.items f.fault };
+    ghost invariant = { λ f. IsFeed (record {
+      header = f.header;
+      frames = f.frames;
+      before = f.before;
+      rest = f.rest.items;
+      fault = f.fault;
+    }) };
 }
 
 impl Feed {
@@ -45,6 +51,7 @@ impl Feed {
     pub fn new(alloc: Global) -> Feed
         ensures stands { StandsFor result [] }
         ensures none { (result.before ≡ 0) × (result.rest ≡ []) × (result.fault ≡ None) }
+        ensures kept { IsFeed result }
     {
         Feed {
             header: None,
@@ -59,8 +66,10 @@ impl Feed {
     /// runs out the feed is given up.
     pub fn feed(self, piece: &[u8]) -> Result<Feed, AllocError>
         requires { self.fault ≡ None → self.before + length self.rest + length piece.now < 2 ^ 64 }
-        ensures stands { IfOk result (λ feed. (bytes : List ℕ)
-            → StandsFor self bytes → StandsFor feed (bytes ++ piece.now)) }
+        ensures stands { IfOk result (λ feed. IsFedOn self feed piece.now) }
+        // No memory is wanted then.
+        ensures dropped { self.fault ≢ None → result ≡ Ok self }
+        ensures kept { IfOk result (λ feed. IsFeed feed) }
         ensures count { IfOk result (λ feed. feed.fault ≡ None
             → feed.before + length feed.rest ≡ self.before + length self.rest + length piece.now) }
     {
@@ -84,7 +93,7 @@ impl Feed {
 
     /// The frames of the capture, or its first fault. It takes no memory.
     pub fn finish(self) -> Result<Frames, CaptureErr>
-        ensures { (bytes : List ℕ) → StandsFor self bytes → result ≡ capture_of bytes }
+        ensures { IsEnded self result }
     {
         let Feed {
             header,
@@ -96,16 +105,10 @@ impl Feed {
         if let Some(fault) = fault {
             return Err(fault);
         }
-        let Some(kind) = header else {
-            return Err(CaptureErr::Truncated(0));
-        };
-        if rest.is_empty() {
+        if header.is_some() && rest.is_empty() {
             return Ok(frames);
         }
-        match first_frame(&rest, kind.big, before) {
-            Ok(_) => Ok(frames),
-            Err(fault) => Err(fault),
-        }
+        Err(CaptureErr::Truncated(before))
     }
 }
 
@@ -218,6 +221,9 @@ fn drop_front(bytes: &mut Vec<u8>, count: usize)
     requires { count ≤ length bytes.old.items }
     ensures { bytes.new.items ≡ drop count bytes.old.items }
 {
+    if count == 0 {
+        return;
+    }
     let left = bytes.len() - count;
     bytes.copy_within(count.., 0);
     bytes.truncate(left);

@@ -7,15 +7,18 @@
 //!
 //! It promises that `read_frames` gives the frames of the capture or its first fault, unless memory runs out, and
 //! `read_header` and `next_frame` the same of the header and of one record; that [`Feed`] gives the same of bytes that come
-//! in pieces, however they are cut, and never keeps a whole record beside the frames; and that what `write_header` and
-//! then `write_frame` append is a capture of the frames, or a front of it where the output failed.
+//! in pieces, however they are cut, and never keeps a whole record beside the frames; that [`read_capture`] so reads a
+//! file of a shelf; and that what `write_header` and then `write_frame` append is a capture of the frames, or a front of it
+//! where the output failed.
 //!
 //! Definitions, in specs/: `FileHeaders` (a good header), `Records` (a record for each frame), `Captures` (what bytes read
-//! as, and what is written); `Pieces` says how frames are kept, and `Feeds` which bytes a feed stands for. `laws` has the
-//! laws that stand on no other call: in the format's words, which bytes are a capture, what stands before a fault, and
-//! what is written.
+//! as, and what is written); `Pieces` says how frames are kept, `Feeds` which bytes a feed stands for, and
+//! `Files` what reading a file answers; `Sizes` has the sizes. `laws` has the laws that stand on no other call: in the
+//! format's words, which bytes are a capture, what stands before a fault, what is written, and that pieces are read
+//! together.
 #![tactic(auto)]
 
+mod capture_file;
 mod error;
 mod feed;
 mod frames;
@@ -26,7 +29,8 @@ mod reading;
 mod record;
 mod writing;
 
-pub use error::{CaptureErr, FramesErr};
+pub use capture_file::read_capture;
+pub use error::{CaptureErr, CaptureReadErr, FramesErr};
 pub use feed::Feed;
 pub use frames::{Frames, piece_at};
 pub use header::{CaptureHeader, read_header};

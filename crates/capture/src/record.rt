@@ -2,6 +2,7 @@
 
 ghost use Rattle.std.specs.Prelude.{◌≡◌, ◌+◌, ◌≤◌, ◌↔◌, length, IfOk, IfSome, Ok, None};
 ghost use Rattle.std.specs.Option.{option_copied};
+ghost use Rattle.capture.specs.Sizes.{header_size, record_size};
 ghost use Rattle.capture.specs.Records.{map_ok, frame_of, next_of};
 
 use crate::error::CaptureErr;
@@ -23,11 +24,11 @@ pub fn next_frame<'a>(
     header: &CaptureHeader,
     at: usize,
 ) -> Result<Option<&'a [u8]>, CaptureErr>
-    requires from { 24 ≤ at }
+    requires from { header_size ≤ at }
     requires within { at ≤ length bytes.now }
     ensures value { map_ok option_copied result ≡ next_of header.now.big bytes.now at }
     ensures end { (result ≡ Ok None) ↔ (at ≡ length bytes.now) }
-    ensures next { IfOk result (λ found. IfSome found (λ frame. at + 16 + length frame.now ≤ length bytes.now)) }
+    ensures next { IfOk result (λ found. IfSome found (λ frame. at + record_size + length frame.now ≤ length bytes.now)) }
 {
     if at == bytes.len() {
         return Ok(None);
@@ -40,7 +41,7 @@ pub fn next_frame<'a>(
 #[tactic(auto, unfolding(crate::specs::Records::frame_of, crate::specs::Records::captured_length))]
 pub(crate) fn first_frame(bytes: &[u8], big: bool, at: u64) -> Result<&[u8], CaptureErr>
     ensures value { map_ok (λ frame. frame.now) result ≡ frame_of big at bytes.now }
-    ensures within { IfOk result (λ frame. 16 + length frame.now ≤ length bytes.now) }
+    ensures within { IfOk result (λ frame. record_size + length frame.now ≤ length bytes.now) }
 {
     if bytes.len() < RECORD_SIZE {
         return Err(CaptureErr::Truncated(at));

@@ -1,4 +1,5 @@
-use Rattle.std.proofs.Common.{◌≡◌, ◌+◌, ◌≤◌, ◌++◌, Some, None, true, false, length, take, drop, sym, ◌∙◌, subst}
+use Rattle.std.proofs.Common.{◌≡◌, ◌+◌, ◌<◌, ◌++◌, Some, None, true, false, refl, length, take, drop, sym, ◌∙◌, subst}
+use Rattle.capture.specs.Sizes.{longest_record}
 use Rattle.capture.specs.Feeds.{IsCutAt, WereCut, is_lasting}
 use Rattle.capture.proofs.FeedSteps.{stands-faulty, cut-faulty, cut-stands, rest-short}
 use Rattle.capture.proofs.feed.go_on.Goals as goal
@@ -18,18 +19,20 @@ invariant_of-result c =
     let not : is_lasting c.in_ok-at.stop ≡ false = sym c.is_lasting.ensures ∙ c.if-is_lasting.false in
     let short = rest-short c.args.kind.big (c.args.before + c.in_ok-at.at) (drop c.in_ok-at.at bytes) c.in_ok-at.stop cut.stops not in
     record {
-      short = subst (λ xs. length xs ≤ 262159) (sym c.drop_front.ensures) short;
+      short = subst (λ xs. length xs < longest_record) (sym c.drop_front.ensures) short;
+      dropped = λ fault. absurd (fault refl);
       unread = λ none. absurd (cc);
       at_start = λ none. absurd (cc);
-      begun = λ none sound. absurd (cc);
+      begun = λ none. absurd (cc);
     }
 
 pub returns-clause-stands : goal.returns-clause-stands
 returns-clause-stands c = λ front size header frames.
     let bytes = c.args.bytes.items in
+    let not : is_lasting c.in_ok-at.stop ≡ false = sym c.is_lasting.ensures ∙ c.if-is_lasting.false in
     let cut = subst (λ xs. WereCut c.args.kind.big c.args.before xs c.args.frames c.cut_records.new.frames c.in_ok-at.at c.in_ok-at.stop) c.deref.ensures.value c.in_ok-at.ensures in (
       front ++ take c.in_ok-at.at bytes,
       subst (λ xs. IsCutAt (record { header = Some c.args.kind; frames = c.cut_records.new.frames; before = c.args.before + c.in_ok-at.at; rest = xs; fault = None }) c.args.kind (front ++ bytes) (front ++ take c.in_ok-at.at bytes))
           (sym c.drop_front.ensures)
-          (cut-stands c.args.kind front bytes c.args.before c.in_ok-at.at c.args.frames c.cut_records.new.frames c.in_ok-at.stop size header frames cut),
+          (cut-stands c.args.kind front bytes c.args.before c.in_ok-at.at c.args.frames c.cut_records.new.frames c.in_ok-at.stop size header frames cut not),
     )
