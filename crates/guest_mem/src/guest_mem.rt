@@ -1,5 +1,6 @@
 //! The memory of a guest.
 ghost use Rattle.std.specs.Prelude.{◌≡◌, replicate, length, IfOk, OnOk, OnErr};
+ghost use Rattle.std.specs.Result.{result_err};
 ghost use Rattle.guest_mem.specs.Memory.{IsBytes, access_answer, bytes_at, with_bytes, WritesAt};
 
 use crate::mem_err::MemErr;
@@ -46,6 +47,16 @@ impl GuestMem {
         ensures bytes { IsBytes self.now }
     {
         self.bytes.len() as u64
+    }
+
+    /// The `len` bytes that stand from `addr` on, where they are: nothing is copied.
+    pub fn slice(&self, addr: u64, len: u64) -> Result<&[u8], MemErr>
+        ensures answer { result_err result ≡ result_err (access_answer self.now addr len) }
+        ensures ok { IfOk result (λ bytes. bytes.now ≡ bytes_at self.now addr len) }
+    {
+        self.check(addr, len)?;
+        let start = addr as usize;
+        Ok(&self.bytes[start..start + len as usize])
     }
 
     /// Fills the buffer with the bytes that stand from `addr` on.

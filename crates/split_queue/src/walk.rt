@@ -143,9 +143,9 @@ fn add_buffer(mem: &GuestMem, chain: &mut Chain, descriptor: Descriptor)
             len: descriptor.len,
         });
     } else {
-        let mut buffer = [0; MOST_READABLE];
-        let bytes = &mut buffer[..descriptor.len as usize];
-        mem.read(descriptor.addr, bytes).unwrap();
+        let bytes = mem
+            .slice(descriptor.addr, u64::from(descriptor.len))
+            .unwrap();
         chain.readable.try_extend_from_slice(bytes).unwrap();
     }
 }
