@@ -1,13 +1,15 @@
 //! Captures of one frame in both byte orders, cut at each length; and what is written, byte by byte.
 
+ghost use Rattle.std.specs.Prelude.{◌<◌, ◌≤◌, length};
+
 use capture::{
-    CaptureErr, CaptureHeader, Feed, Frames, FramesErr, next_frame, read_frames, read_header,
-    write_frame, write_header,
+    CaptureErr, CaptureHeader, CaptureReadErr, Feed, Frames, FramesErr, next_frame, read_capture,
+    read_frames, read_header, write_frame, write_header,
 };
 use std::alloc::Global;
 use std::process::Abort;
 use std::test::Fail;
-use vnff_base::MemOut;
+use vnff_base::{MemOut, MemShelf};
 
 pub const FRAME: [u8; 14] = [255, 255, 255, 255, 255, 255, 2, 0, 0, 0, 0, 1, 8, 0];
 
@@ -63,22 +65,42 @@ fn a_frame_that_is_too_long(rt: HostRuntime) {
     check(&rt, read_frames(rt.alloc(), &bytes), wanted);
 }
 
-/// What a feed gives of two pieces.
-fn fed(alloc: Global, first: &[u8], second: &[u8]) -> Result<Frames, FramesErr> {
-    let feed = Feed::new(alloc);
-    let feed = feed.feed(first).map_err(|_| FramesErr::Memory)?;
-    let feed = feed.feed(second).map_err(|_| FramesErr::Memory)?;
+/// What a feed gives of bytes that come in pieces of so many, of which the last may be shorter.
+fn fed(alloc: Global, bytes: &[u8], size: usize) -> Result<Frames, FramesErr>
+    requires some { 0 < size }
+    requires short { length bytes.now ≤ 54 }
+{
+    let mut feed = Feed::new(alloc);
+    let mut at = 0;
+    while at < bytes.len() {
+        let next = at + size.min(bytes.len() - at);
+        let Ok(more) = feed.feed(&bytes[at..next]) else {
+            return Err(FramesErr::Memory);
+        };
+        feed = more;
+        at = next;
+    }
     feed.finish().map_err(FramesErr::Bad)
 }
 
 #[test]
-fn a_capture_in_two_pieces(rt: HostRuntime) {
-    for size in 0..55 {
-        let (first, second) = CAPTURE.split_at(size);
-        check(&rt, fed(rt.alloc(), first, second), Ok(1));
+fn a_capture_in_pieces(rt: HostRuntime) {
+    for size in 1..55 {
+        check(&rt, fed(rt.alloc(), &CAPTURE, size), Ok(1));
+        let cut = Err(FramesErr::Bad(CaptureErr::Truncated(24)));
+        check(&rt, fed(rt.alloc(), &CAPTURE[..53], size), cut);
     }
-    let cut = Err(FramesErr::Bad(CaptureErr::Truncated(24)));
-    check(&rt, fed(rt.alloc(), &CAPTURE[..31], &CAPTURE[31..53]), cut);
+}
+
+#[test]
+fn a_capture_that_is_a_file(rt: HostRuntime) -> Result<(), Fail> {
+    let mut shelf = MemShelf::new(rt.alloc());
+    shelf.add("c", &CAPTURE)?;
+    let frames = read_capture(rt.alloc(), &mut shelf, "c", 54)?;
+    check(&rt, Ok(frames), Ok(1));
+    let refused = read_capture(rt.alloc(), &mut shelf, "c", 53).map(|frames| frames.len());
+    assert_eq!(rt; refused, Err(CaptureReadErr::TooLong));
+    Ok(())
 }
 
 #[test]
