@@ -7,8 +7,8 @@ mod GrammarExamples
 mod GrammarLemmas
 mod InputLemmas
 mod ItemBounds
-mod QueuePlaced
 mod PacketLemmas
+mod QueuePlaced
 mod ReplayLemmas
 mod Rows
 mod ScriptReadBack

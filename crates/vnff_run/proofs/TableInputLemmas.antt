@@ -4,7 +4,15 @@ use Rattle.std.specs.Prelude.{IfSome, IsSomeAnd}
 use Rattle.std.proofs.lemmas.Option.{IfSome_then}
 use Rattle.vnff_base.specs.Counts.{Rose}
 use Rattle.vnff_base.specs.Shelves.{Files, ShelfState}
-use Rattle.vnff_run.specs.Endings.{Judges, ReadsInput}
+use Rattle.cap_table.specs.Caps.{CapsParts}
+use Rattle.ntuple_text.specs.TableMaps.{TableMap}
+use Rattle.ntuple_compile.specs.Compiled.{IsFaultOf, compiled}
+use Rattle.ntuple_compile.specs.declared.error.CompileErr.{CompileErr}
+use Rattle.ntuple_compile.specs.declared.error.CompileErr.TheVariants as errors
+use Rattle.vnff_run.specs.Endings.{JudgeStops, Judges, ReadsInput}
+use Rattle.vnff_run.specs.Programs.{compile_stop}
+use Rattle.vnff_run.specs.TableInputs.{commands_or_refusal, compiled_for}
+use Rattle.vnff_run.specs.declared.compiled.CompiledTable.{CompiledTable}
 use Rattle.vnff_run.specs.Inputs.{InputFault, Missing, Refused}
 use Rattle.vnff_run.specs.Results.{◌>>=◌}
 use Rattle.vnff_run.specs.declared.stop.Stop.{Stop}
@@ -17,6 +25,7 @@ read_judged shelf read part next value (Ok b) was judged =
 read_judged shelf read part next value (Err stops.ReadFault) was judged = absurd judged
 read_judged shelf read part next value (Err (stops.Refused refusal)) was judged =
     (was.0, IfSome_then shelf.files was.1 (λ files is. ap (λ p. p >>= next) is ∙ judged))
+read_judged shelf read part next value (Err stops.AlreadyRefused) was judged = absurd judged
 read_judged shelf read part next value (Err stops.WriteFault) was judged = absurd judged
 read_judged shelf read part next value (Err stops.Memory) was judged = was.0
 
@@ -39,5 +48,16 @@ read_then shelf middle read part next value (Err stops.ReadFault) was same then 
     then
 read_then shelf middle read part next value (Err (stops.Refused refusal)) was same then =
     (then.0 ∙ was.0, both_told shelf.files was.1 (subst (λ o. IfSome o (λ files. next value files ≡ Err (Refused refusal))) same then.1) (λ files is more. ap (λ p. p >>= λ x. next x files) is ∙ more))
+read_then shelf middle read part next value (Err stops.AlreadyRefused) was same then = absurd then
 read_then shelf middle read part next value (Err stops.WriteFault) was same then = absurd then
 read_then shelf middle read part next value (Err stops.Memory) was same then = then ∙ was.0
+
+-- why a table can't be compiled ends a form with its refusal, unless memory ran out
+pub compiled_stops : (caps : CapsParts) (table : TableMap) (err : CompileErr) → IsFaultOf (compiled table caps) err → JudgeStops (compiled_for caps table) (compile_stop err)
+unfolding compiled_for
+compiled_stops caps table (errors.Unsupported loc kind) is = ap (λ r. commands_or_refusal r >>= λ commands. Ok (record { caps = caps; table = table; commands = commands })) is
+compiled_stops caps table (errors.Rules count) is = ap (λ r. commands_or_refusal r >>= λ commands. Ok (record { caps = caps; table = table; commands = commands })) is
+compiled_stops caps table (errors.Classifiers count) is = ap (λ r. commands_or_refusal r >>= λ commands. Ok (record { caps = caps; table = table; commands = commands })) is
+compiled_stops caps table (errors.Levels count) is = ap (λ r. commands_or_refusal r >>= λ commands. Ok (record { caps = caps; table = table; commands = commands })) is
+compiled_stops caps table (errors.PerGroup count) is = ap (λ r. commands_or_refusal r >>= λ commands. Ok (record { caps = caps; table = table; commands = commands })) is
+compiled_stops caps table errors.Memory is = tt

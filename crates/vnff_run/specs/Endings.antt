@@ -68,6 +68,10 @@ abbrev pub ReadsInput : {A : Type 0} → ShelfState → ShelfState → (Files �
 ReadsInput old new input (Ok value) = NoReadFailed old new × IfSome old.files (λ files. input files ≡ Ok value)
 ReadsInput old new input (Err stop) = ReadStops old new input stop
 
+-- The outcome is that an input is refused behind a text, and all of it was written.
+abbrev pub IsRefusedBehind : OutputState → OutputState → Outcome → Type 0
+IsRefusedBehind old new outcome = (outcome.status ≡ refused_status) × Wrote old new outcome.text
+
 -- Why judging what was read stopped: it is refused, or memory ran out.
 abbrev pub JudgeStops : {A : Type 0} → Result A InputFault → Stop → Type 0
 JudgeStops judged (stops.Refused refusal) = judged ≡ Err (Refused refusal)
@@ -78,10 +82,6 @@ JudgeStops judged _ = ⊥
 abbrev pub Judges : {A : Type 0} → Result A InputFault → Result A Stop → Type 0
 Judges judged (Ok value) = judged ≡ Ok value
 Judges judged (Err stop) = JudgeStops judged stop
-
--- The outcome is that an input is refused behind a text, and all of it was written.
-abbrev pub IsRefusedBehind : OutputState → OutputState → Outcome → Type 0
-IsRefusedBehind old new outcome = (outcome.status ≡ refused_status) × Wrote old new outcome.text
 
 -- Why doing what has an outcome stopped, over an input that was read: a refusal behind what was written, a failed
 -- write, or want of memory.

@@ -9,11 +9,11 @@ use Rattle.vnff_run.specs.declared.form.Form.TheVariants as forms
 -- what the words ask for; each file by its name
 pub data WordForm : Type 0 where
   Replay : (script : List ℕ) → WordForm
+  Drain : (image : List ℕ) → (place : Place) → WordForm
   Compile : (device table : List ℕ) → WordForm
   Table : (device table capture : List ℕ) → WordForm
-  Drain : (image : List ℕ) → (place : Place) → WordForm
 
--- the form of the words: `replay SCRIPT`, `compile DEVICE TABLE`, `table DEVICE TABLE CAPTURE`, or `drain IMAGE SIZE DESC
+-- the form of the words: `replay SCRIPT`, `compile DEVICE TABLE`, `table DEVICE TABLE CAPTURE` or `drain IMAGE SIZE DESC
 -- AVAIL USED`
 unfoldable pub form_of : List (List ℕ) → Option WordForm
 form_of (form ∷ script ∷ []) = if bytes_eq form (codes "replay") then Some (Replay script) else None
@@ -27,6 +27,6 @@ form_of _ = None
 -- a form as the code keeps it
 abbrev pub form_view : Form → WordForm
 form_view (forms.Replay script) = Replay script.now
+form_view (forms.Drain image place) = Drain image.now place
 form_view (forms.Compile device table) = Compile device.now table.now
 form_view (forms.Table device table capture) = Table device.now table.now capture.now
-form_view (forms.Drain image place) = Drain image.now place

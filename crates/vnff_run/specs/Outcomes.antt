@@ -2,22 +2,22 @@
 use Rattle.std.specs.Prelude.{ℕ, List, [], ◌++◌, codes, decimal, Option, Some, None, Result, Ok, Err}
 use Rattle.vnff_base.specs.Shelves.{Files}
 use Rattle.split_queue.specs.declared.queue_place.Place.{Place}
-use Rattle.vnff_run.specs.CompileTexts.{compile_text}
 use Rattle.vnff_run.specs.Drain.{drain_last, drain_text, setup_word}
-use Rattle.vnff_run.specs.Forms.{WordForm, Replay, Compile, Table, Drain, form_of}
 use Rattle.vnff_run.specs.Inputs.{InputFault, Missing, Refused, queue_in, script_in}
 use Rattle.vnff_run.specs.Replay.{replay_text, line_feed}
+use Rattle.vnff_run.specs.declared.drain.Last.{Last}
+use Rattle.vnff_run.specs.declared.drain.Last.TheVariants.{Empty, Faulty}
+use Rattle.vnff_run.specs.CompileTexts.{compile_text}
+use Rattle.vnff_run.specs.Forms.{WordForm, Replay, Compile, Table, Drain, form_of}
 use Rattle.vnff_run.specs.TableInputs.{compiled_in, table_run_in}
 use Rattle.vnff_run.specs.TableRefusals.{capture_words, limit_words, table_reason_word, unsupported_words}
 use Rattle.vnff_run.specs.Tables.{table_text}
-use Rattle.vnff_run.specs.declared.drain.Last.{Last}
-use Rattle.vnff_run.specs.declared.drain.Last.TheVariants.{Empty, Faulty}
 use Rattle.vnff_run.specs.declared.script.Reason.{Reason}
 use Rattle.vnff_run.specs.declared.script.Reason.TheVariants as reasons
 use Rattle.vnff_run.specs.declared.stop.FileKind.{FileKind}
 use Rattle.vnff_run.specs.declared.stop.FileKind.TheVariants as kinds
 use Rattle.vnff_run.specs.declared.stop.RefusedInput.{RefusedInput}
-use Rattle.vnff_run.specs.declared.stop.RefusedInput.TheVariants.{TooLong, BadScript, BadDevice, BadTable, BadCapture, Unsupported, PastLimit, BadImage}
+use Rattle.vnff_run.specs.declared.stop.RefusedInput.TheVariants.{TooLong, BadScript, BadImage, BadDevice, BadTable, BadCapture, Unsupported, PastLimit}
 
 -- The exit statuses.
 -- everything was done
@@ -52,10 +52,10 @@ pub record Outcome : Type 0 where
 -- what a file was to be, in a refusal's line
 abbrev pub kind_word : FileKind → List ℕ
 kind_word kinds.Script = codes "script"
+kind_word kinds.Image = codes "image"
 kind_word kinds.Device = codes "device"
 kind_word kinds.Table = codes "table"
 kind_word kinds.Capture = codes "capture"
-kind_word kinds.Image = codes "image"
 
 -- why a script is refused, in a refusal's line
 abbrev pub reason_word : Reason → List ℕ
@@ -75,13 +75,13 @@ fault_words kind line reason = kind_word kind ++ (codes ":" ++ (decimal line ++ 
 -- what is refused, and why: the rest of a refusal's line
 unfoldable pub refusal_words : RefusedInput → List ℕ
 refusal_words (TooLong kind) = kind_word kind ++ codes " too-long"
+refusal_words (BadImage fault) = codes "image " ++ setup_word fault
 refusal_words (BadScript line reason) = fault_words kinds.Script line (reason_word reason)
 refusal_words (BadDevice line reason) = fault_words kinds.Device line (reason_word reason)
 refusal_words (BadTable line reason) = fault_words kinds.Table line (table_reason_word reason)
 refusal_words (BadCapture fault) = capture_words fault
 refusal_words (Unsupported loc kind) = unsupported_words loc kind
 refusal_words (PastLimit limit count) = limit_words limit count
-refusal_words (BadImage fault) = codes "image " ++ setup_word fault
 
 -- the line of a refusal
 unfoldable pub refusal_line : RefusedInput → List ℕ
@@ -117,11 +117,11 @@ outcome_with run (Err fault) = fault_outcome fault
 -- the outcome of a form over files
 unfoldable pub outcome_in : WordForm → Files → Outcome
 outcome_in (Replay script) files = outcome_with (λ s. done_outcome (replay_text s)) (script_in script files)
+outcome_in (Drain image place) files = outcome_with (λ queue. drain_outcome queue.0 place) (queue_in image place files)
 outcome_in (Compile device table) files =
     outcome_with (λ run. done_outcome (compile_text run)) (compiled_in device table files)
 outcome_in (Table device table capture) files =
     outcome_with (λ run. done_outcome (table_text run.0.table run.1)) (table_run_in device table capture files)
-outcome_in (Drain image place) files = outcome_with (λ queue. drain_outcome queue.0 place) (queue_in image place files)
 
 -- the outcome of what may be a form
 abbrev pub outcome_by : Option WordForm → Files → Outcome

@@ -76,6 +76,10 @@ fn put_refusal_words<O: Out>(out: &mut O, input: RefusedInput) -> Result<(), Fai
             out.put(kind_word(kind))?;
             out.put(b" too-long")
         }
+        RefusedInput::BadImage(fault) => {
+            out.put(b"image ")?;
+            out.put(setup_word(fault))
+        }
         RefusedInput::BadScript(line, reason) => {
             put_fault(out, FileKind::Script, line, reason_word(reason))
         }
@@ -88,10 +92,6 @@ fn put_refusal_words<O: Out>(out: &mut O, input: RefusedInput) -> Result<(), Fai
         RefusedInput::BadCapture(fault) => put_capture_fault(out, fault),
         RefusedInput::Unsupported(loc, kind) => put_unsupported(out, loc, kind),
         RefusedInput::PastLimit(limit, count) => put_past_limit(out, limit, count),
-        RefusedInput::BadImage(fault) => {
-            out.put(b"image ")?;
-            out.put(setup_word(fault))
-        }
     }
 }
 
@@ -113,10 +113,10 @@ fn kind_word(kind: FileKind) -> &'static [u8]
 {
     match kind {
         FileKind::Script => b"script",
+        FileKind::Image => b"image",
         FileKind::Device => b"device",
         FileKind::Table => b"table",
         FileKind::Capture => b"capture",
-        FileKind::Image => b"image",
     }
 }
 

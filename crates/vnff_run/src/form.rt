@@ -1,7 +1,10 @@
 //! The forms of words that the program takes.
 
 ghost use Rattle.std.specs.Prelude.{◌≡◌, map, option_map, string_bytes};
+ghost use Rattle.std.specs.Prelude.{codes, Some, None, if◌then◌else◌};
+ghost use Rattle.std.specs.Str.{bytes_eq};
 ghost use Rattle.vnff_run.specs.Forms.{form_of, form_view};
+ghost use Rattle.vnff_run.specs.Forms.{Replay as WordReplay, Compile as WordCompile, Table as WordTable};
 
 use crate::drain_words::place_of;
 use split_queue::Place;
@@ -11,12 +14,12 @@ use split_queue::Place;
 pub enum Form<'a> {
     /// `replay SCRIPT`: run a script's lines in order.
     Replay(&'a str),
+    /// `drain IMAGE SIZE DESC AVAIL USED`: write the chains of the queue at a place in an image of guest memory.
+    Drain(&'a str, Place),
     /// `compile DEVICE TABLE`: compile a table for a device.
     Compile(&'a str, &'a str),
     /// `table DEVICE TABLE CAPTURE`: compile a table for a device, and classify the frames of a capture.
     Table(&'a str, &'a str, &'a str),
-    /// `drain IMAGE SIZE DESC AVAIL USED`: write the chains of the queue at a place in an image of guest memory.
-    Drain(&'a str, Place),
 }
 
 /// The form of the words, which are those behind the program's own name.
@@ -25,15 +28,14 @@ pub fn form_of(words: &[String]) -> Option<Form<'_>>
     ensures { option_map form_view result ≡ form_of (map string_bytes words.now) }
 {
     match words {
-        [form, script] if form.as_str() == "replay" => Some(Form::Replay(script.as_str())),
-        [form, device, table] if form.as_str() == "compile" => {
-            Some(Form::Compile(device.as_str(), table.as_str()))
-        }
-        [form, device, table, capture] if form.as_str() == "table" => Some(Form::Table(
+        [form, script] => one_file(form.as_str(), script.as_str()),
+        [form, device, table] => two_files(form.as_str(), device.as_str(), table.as_str()),
+        [form, device, table, capture] => three_files(
+            form.as_str(),
             device.as_str(),
             table.as_str(),
             capture.as_str(),
-        )),
+        ),
         [form, image, size, desc, avail, used] if form.as_str() == "drain" => {
             let place = place_of(
                 size.as_bytes(),
@@ -44,5 +46,46 @@ pub fn form_of(words: &[String]) -> Option<Form<'_>>
             Some(Form::Drain(image.as_str(), place))
         }
         _ => None,
+    }
+}
+
+/// The form of a word and a file.
+fn one_file<'a>(form: &str, script: &'a str) -> Option<Form<'a>>
+    ensures { option_map form_view result
+        ≡ if bytes_eq form.now (codes "replay") then Some (WordReplay script.now) else None }
+{
+    if form == "replay" {
+        Some(Form::Replay(script))
+    } else {
+        None
+    }
+}
+
+/// The form of a word and two files.
+fn two_files<'a>(form: &str, device: &'a str, table: &'a str) -> Option<Form<'a>>
+    ensures { option_map form_view result
+        ≡ if bytes_eq form.now (codes "compile") then Some (WordCompile device.now table.now) else None }
+{
+    if form == "compile" {
+        Some(Form::Compile(device, table))
+    } else {
+        None
+    }
+}
+
+/// The form of a word and three files.
+fn three_files<'a>(
+    form: &str,
+    device: &'a str,
+    table: &'a str,
+    capture: &'a str,
+) -> Option<Form<'a>>
+    ensures { option_map form_view result
+        ≡ if bytes_eq form.now (codes "table") then Some (WordTable device.now table.now capture.now) else None }
+{
+    if form == "table" {
+        Some(Form::Table(device, table, capture))
+    } else {
+        None
     }
 }

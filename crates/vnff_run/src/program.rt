@@ -71,10 +71,10 @@ fn run<S: Shelf, O: Out>(
 {
     match form {
         Form::Replay(script) => replay(alloc, script, shelf, out),
+        Form::Drain(image, place) => drain(alloc, image, place, shelf, out),
         Form::Compile(device, table) => compile_table(alloc, device, table, shelf, out),
         Form::Table(device, table, capture) => classify_by_table(
             alloc, device, table, capture, shelf, out,
         ),
-        Form::Drain(image, place) => drain(alloc, image, place, shelf, out),
     }
 }

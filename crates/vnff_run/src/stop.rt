@@ -17,14 +17,14 @@ use vnff_base::Failed;
 pub enum FileKind {
     /// A script.
     Script,
+    /// An image of guest memory.
+    Image,
     /// A file of a device alone.
     Device,
     /// A table.
     Table,
     /// A capture.
     Capture,
-    /// An image of guest memory.
-    Image,
 }
 
 /// An input that is refused, and why.
@@ -34,6 +34,8 @@ pub enum RefusedInput {
     TooLong(FileKind),
     /// A file is no script: the line, and the reason.
     BadScript(u32, Reason),
+    /// No queue can lie in an image where the words say.
+    BadImage(SetupErr),
     /// A file is none of a device alone: the line, and the reason.
     BadDevice(u32, Reason),
     /// A file is no table: the line, and the reason.
@@ -44,8 +46,6 @@ pub enum RefusedInput {
     Unsupported(u16, Kind),
     /// A table needs so many, and the device has fewer.
     PastLimit(TableLimit, u32),
-    /// No queue can lie in an image where the words say.
-    BadImage(SetupErr),
 }
 
 /// Why a form ended early.
