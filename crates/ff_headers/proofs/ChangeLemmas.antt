@@ -26,7 +26,7 @@ apart q id h = grind (arith, nat_tests)
 differs : (a b : ℕ) → eqb a b ≡ false → a ≢ b
 differs a b h = λ e. absurd (grind (arith, nat_tests))
 
-no_ids : IsStrictlySortedBy nat_cmp []
+pub no_ids : IsStrictlySortedBy nat_cmp []
 unfolding IsStrictlySortedBy
 no_ids = tt
 
@@ -73,7 +73,7 @@ module _ {X : Type 0} where
 -- ---- a rule that is backed
 
 -- the tests of a rule to be put
-backed_from_test : (objects : FlowObjects) (rule : RuleParts) → is_backed objects rule ≡ true → IsBacked objects rule
+pub backed_from_test : (objects : FlowObjects) (rule : RuleParts) → is_backed objects rule ≡ true → IsBacked objects rule
 backed_from_test objects rule h =
     let p = and_parts _ _ h in
     record { group_held = p.0; key_fits = key_from_test (object_under objects.classifiers rule.classifier) p.1 } where
@@ -81,7 +81,7 @@ backed_from_test objects rule h =
       key_from_test None e = absurd cc
       key_from_test (Some selectors) e = grind (arith, nat_tests)
 
-same_classifier : (rule : RuleParts) (o p : Option (List SelectorParts)) → o ≡ p → IsSomeAnd p (λ selectors. length rule.key ≡ key_size selectors) → IsSomeAnd o (λ selectors. length rule.key ≡ key_size selectors)
+pub same_classifier : (rule : RuleParts) (o p : Option (List SelectorParts)) → o ≡ p → IsSomeAnd p (λ selectors. length rule.key ≡ key_size selectors) → IsSomeAnd o (λ selectors. length rule.key ≡ key_size selectors)
 same_classifier rule o p e h = rw e h
 
 -- ---- each kind of change

@@ -15,7 +15,7 @@ use Rattle.ff_headers.specs.Matching.{masked, SameUnder, fits, PartFits, matches
 
 -- ---- bytes under a mask
 
-masked_at : (mask bytes : List ℕ) (j : ℕ) → length bytes ≡ length mask → j < length mask → get_or (masked mask bytes) j 0 ≡ bit_and (get_or bytes j 0) (get_or mask j 0)
+pub masked_at : (mask bytes : List ℕ) (j : ℕ) → length bytes ≡ length mask → j < length mask → get_or (masked mask bytes) j 0 ≡ bit_and (get_or bytes j 0) (get_or mask j 0)
 masked_at mask bytes j same inside =
     let long = length-zip bytes mask in
     let at = get_or-zip bytes mask j (0, 0) (omega arith) inside in
@@ -25,17 +25,17 @@ length_map : {A B : Type 0} (f : A → B) (xs : List A) → length (map f xs) �
 length_map f [] = refl
 length_map f (x ∷ xs) = ap suc (length_map f xs)
 
-length-masked : (mask bytes : List ℕ) → length bytes ≡ length mask → length (masked mask bytes) ≡ length mask
+pub length-masked : (mask bytes : List ℕ) → length bytes ≡ length mask → length (masked mask bytes) ≡ length mask
 length-masked mask bytes same =
     let long = length-zip bytes mask in
     let mapped = length_map (λ (p : ℕ × ℕ). bit_and p.0 p.1) (zip bytes mask) in
     omega arith
 
-same_under_from_masked : (mask a b : List ℕ) → length a ≡ length mask → length b ≡ length mask → masked mask a ≡ masked mask b → SameUnder mask a b
+pub same_under_from_masked : (mask a b : List ℕ) → length a ≡ length mask → length b ≡ length mask → masked mask a ≡ masked mask b → SameUnder mask a b
 same_under_from_masked mask a b la lb e j inside =
     sym (masked_at mask a j la inside) ∙ ap (λ xs. get_or xs j 0) e ∙ masked_at mask b j lb inside
 
-masked_from_same_under : (mask a b : List ℕ) → length a ≡ length mask → length b ≡ length mask → SameUnder mask a b → masked mask a ≡ masked mask b
+pub masked_from_same_under : (mask a b : List ℕ) → length a ≡ length mask → length b ≡ length mask → SameUnder mask a b → masked mask a ≡ masked mask b
 masked_from_same_under mask a b la lb h =
     let long = length-masked mask a la in
     let long' = length-masked mask b lb in
@@ -43,7 +43,7 @@ masked_from_same_under mask a b la lb h =
     let i : k < length mask = omega arith in
     masked_at mask a k la i ∙ h k i ∙ sym (masked_at mask b k lb i))
 
-masked_decides : (mask a b : List ℕ) → length a ≡ length mask → length b ≡ length mask → Decides (pointwise eqb (masked mask a) (masked mask b)) (SameUnder mask a b)
+pub masked_decides : (mask a b : List ℕ) → length a ≡ length mask → length b ≡ length mask → Decides (pointwise eqb (masked mask a) (masked mask b)) (SameUnder mask a b)
 masked_decides mask a b la lb =
     Decides-like _ (same_under_from_masked mask a b la lb) (masked_from_same_under mask a b la lb) (bytes_decides (masked mask a) (masked mask b))
 

@@ -34,7 +34,7 @@ module _ {A : Type 0} (p : A → Bool) where
 
 -- ---- the order of places
 
-place_total : IsTotalOrder place_cmp
+pub place_total : IsTotalOrder place_cmp
 place_total = then_total (λ (x : Place). x.0) (λ (x : Place). x) nat_cmp_total (then_total (λ (x : Place). x.1) (λ (x : Place). x.2) nat_cmp_total nat_cmp_total)
 
 pub before_ranks : (objects : FlowObjects) → IsStrictWeakOrder (is_before objects)
@@ -43,11 +43,11 @@ before_ranks objects = ranks_by place_total (place_of objects)
 -- ---- the least of a list
 
 -- an entry that is in the list, and that none in it comes before
-record IsLeast (objects : FlowObjects) (entries : List RuleEntry) (entry : RuleEntry) : Type 0 where
+pub record IsLeast (objects : FlowObjects) (entries : List RuleEntry) (entry : RuleEntry) : Type 0 where
   pub among : Contains entries entry
   pub least : (other : RuleEntry) → Contains entries other → is_before objects other entry ≡ false
 
-best_is_least : (objects : FlowObjects) (e : RuleEntry) (es : List RuleEntry) → IsLeast objects (e ∷ es) (best_of (is_before objects) e es)
+pub best_is_least : (objects : FlowObjects) (e : RuleEntry) (es : List RuleEntry) → IsLeast objects (e ∷ es) (best_of (is_before objects) e es)
 best_is_least objects e es =
     let found = IsFirstBest-from_best_of (before_ranks objects) e es in
     let at = found.2 in
@@ -79,7 +79,7 @@ module _ (objects : FlowObjects) (headers : HeaderBytes) where
     none_found h = cc
   least_is_found (e ∷ es) only all = (λ h. (e, only e (0, omega arith, refl)), λ m. refl)
 
-  only_matching : IsById objects.rules → (entry : RuleEntry) → Contains (matching_rules objects headers) entry → IsMatching objects headers entry
+  pub only_matching : IsById objects.rules → (entry : RuleEntry) → Contains (matching_rules objects headers) entry → IsMatching objects headers entry
   only_matching sorted entry has =
       let p = λ (e : RuleEntry). rule_matches objects headers e.1 in
       record {
@@ -87,7 +87,7 @@ module _ (objects : FlowObjects) (headers : HeaderBytes) where
         fits_headers = passes_from_filter p objects.rules entry has;
       }
 
-  all_matching : (entry : RuleEntry) → IsMatching objects headers entry → Contains (matching_rules objects headers) entry
+  pub all_matching : (entry : RuleEntry) → IsMatching objects headers entry → Contains (matching_rules objects headers) entry
   all_matching entry m =
       Contains-filter (λ (e : RuleEntry). rule_matches objects headers e.1) objects.rules entry (entry_from_held objects.rules entry.0 entry.1 m.is_held) m.fits_headers
 
