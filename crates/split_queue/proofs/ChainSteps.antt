@@ -51,9 +51,13 @@ pub record IsWalking (mem : List ℕ) (place : Place) (head : ℕ) (visited : Li
   pub pieces : length chain.writable.items ≤ counter
   pub inside : number < place.size
 
-pub starts : (mem : List ℕ) (place : Place) (head : ℕ) → head < place.size → IsWalking mem place head (head ∷ []) (bare_chain head) 0 head
+starts : (mem : List ℕ) (place : Place) (head : ℕ) → head < place.size → IsWalking mem place head (head ∷ []) (bare_chain head) 0 head
 unfolding chain_of
 starts mem place head inside = record { rest = refl; visited_count = refl; pieces = omega arith; inside = inside }
+
+-- the same, where the head alone was visited and the chain is bare
+pub starts_bare : (mem : List ℕ) (place : Place) (head : ℕ) (visited : List ℕ) (chain : Chain) → head < place.size → visited ≡ head ∷ [] → chain ≡ bare_chain head → IsWalking mem place head visited chain 0 head
+starts_bare mem place head visited chain inside is_head is_bare = rw (is_head, is_bare) (starts mem place head inside)
 
 -- one turn of the walk
 pub follows : (mem : List ℕ) (place : Place) (head : ℕ) (visited longer : List ℕ) (chain more : Chain) (counter number n : ℕ) → counter + 1 < most_descriptors → Ok (Some n) ≡ next_in_chain mem place visited chain number → longer ≡ visited ++ n ∷ [] → more ≡ with_buffer mem chain (descriptor_at mem place number) → n < place.size → IsWalking mem place head visited chain counter number → IsWalking mem place head longer more (counter + 1) n

@@ -1,5 +1,5 @@
 -- The device's end of a queue: what it takes, and what it gives back (Virtio 1.4 draft, "Split Virtqueues").
-use Rattle.std.specs.Prelude.{ℕ, ◌==◌, nat_lt, nat_le, if◌then◌else◌, List, Option, Some, None, Result, Ok, Err}
+use Rattle.std.specs.Prelude.{ℕ, Bool, true, false, ◌==◌, nat_lt, nat_le, if◌then◌else◌, List, Option, Some, None, Result, Ok, Err}
 use Rattle.split_queue.specs.Rings.{index_after, index_gap, available_idx, available_head}
 use Rattle.split_queue.specs.Walks.{chain_of}
 use Rattle.split_queue.specs.declared.chain.Chain.{Chain}
@@ -37,6 +37,12 @@ pop_answer mem place index =
     if idx == index then Ok None
     else (if nat_lt place.size (index_gap index idx) then Err (fault.IdxJump idx)
     else as_pop_answer (chain_in_slot mem place index))
+
+-- a pop's answer by its two parts: whether there was a chain, or the fault, and the chain's place as it was left
+abbrev pub answer_with : Chain → Result Bool RingErr → Result (Option Chain) RingErr
+answer_with chain (Ok true) = Ok (Some chain)
+answer_with chain (Ok false) = Ok None
+answer_with chain (Err f) = Err f
 
 -- the device's end after it took a chain, and after it gave one back
 abbrev pub after_pop : DeviceEndState → DeviceEndState

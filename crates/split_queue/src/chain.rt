@@ -2,6 +2,7 @@
 ghost use Rattle.std.specs.Prelude.{◌≡◌, ◌^◌, ◌<◌, All, length, min};
 ghost use Rattle.guest_mem.specs.Memory.{ChangesOnly};
 ghost use Rattle.split_queue.specs.Chains.{room_of, PieceLiesIn, with_bytes_in, IsInPieces};
+ghost use Rattle.split_queue.specs.Walks.{bare_chain};
 
 use arrayvec::ArrayVec;
 use guest_mem::GuestMem;
@@ -33,6 +34,26 @@ pub struct Chain {
 }
 
 impl Chain {
+    /// A chain with no buffer, and 0 for its head.
+    pub fn empty() -> Chain
+        ensures { result ≡ bare_chain 0 }
+    {
+        Chain {
+            head: 0,
+            readable: ArrayVec::new(),
+            writable: ArrayVec::new(),
+        }
+    }
+
+    /// Empties it, for the chain of a head. Only what it holds is blanked, so this costs no more than its buffers do.
+    pub(crate) fn clear(&mut self, head: u16)
+        ensures { self.new ≡ bare_chain head }
+    {
+        self.head = head;
+        self.readable.clear();
+        self.writable.clear();
+    }
+
     /// The bytes that the device may write.
     pub fn room(&self) -> u64
         ensures { result ≡ room_of self.now.writable.items }

@@ -7,6 +7,7 @@
 //!
 //! [`DeviceEnd::pop`] promises the chain of the layout, or its first fault, whatever bytes a hostile guest wrote: a
 //! chain that loops, leaves the memory or is too long is refused, and the end is then as it was.
+//! [`DeviceEnd::pop_into`] promises the same of a chain that the caller keeps, which is faster: a chain has 2 KB.
 //! [`DeviceEnd::push_used`] writes one element and the index. [`DriverEnd::post`] writes the descriptors of a chain,
 //! its head and the available index, and nothing else; [`DriverEnd::take`] takes back what the device gave back. No
 //! call but [`DriverEnd::new`] asks for memory. In which order one call writes its bytes, no contract says.

@@ -1,5 +1,5 @@
 //! The walk from a head along the descriptors of its chain.
-ghost use Rattle.std.specs.Prelude.{◌≡◌, ◌+◌, ◌<◌, true, nat_le, length, IfSome, IfNone, IfOk, OnOk};
+ghost use Rattle.std.specs.Prelude.{◌≡◌, ◌+◌, ◌<◌, true, nat_le, length, Ok, Err, IfSome, IfNone, IfOk, OnOk, MatchResult};
 ghost use Rattle.split_queue.specs.Chains.{most_descriptors};
 ghost use Rattle.split_queue.specs.Descriptors.{descriptor_at, has_next};
 ghost use Rattle.split_queue.specs.Setup.{IsPlaced};
@@ -12,31 +12,33 @@ use crate::ring_err::RingErr;
 use arrayvec::ArrayVec;
 use guest_mem::GuestMem;
 
-/// The chain of a head, or its first fault.
-pub(crate) fn chain_of(mem: &GuestMem, place: Place, head: u16) -> Result<Chain, RingErr>
+/// Fills the chain with the buffers of a head's chain, or gives the first fault; then the chain holds some of them.
+pub(crate) fn fill_chain(
+    mem: &GuestMem,
+    place: Place,
+    head: u16,
+    chain: &mut Chain,
+) -> Result<(), RingErr>
     requires placed { IsPlaced place (length mem.now) }
     requires head { head < place.size }
-    ensures { result ≡ chain_of mem.now place head }
+    ensures { MatchResult result (λ _. Ok chain.new ≡ chain_of mem.now place head)
+        (λ fault. Err fault ≡ chain_of mem.now place head) }
 {
-    let mut chain = Chain {
-        head,
-        readable: ArrayVec::new(),
-        writable: ArrayVec::new(),
-    };
+    chain.clear(head);
     let mut visited: ArrayVec<u16, MOST_DESCRIPTORS> = ArrayVec::new();
     visited.push(head);
     let mut number = head;
     for _ in 0..MOST_DESCRIPTORS - 1 {
-        match add_descriptor(mem, place, &visited, &mut chain, number)? {
-            None => return Ok(chain),
+        match add_descriptor(mem, place, &visited, chain, number)? {
+            None => return Ok(()),
             Some(next) => {
                 visited.push(next);
                 number = next;
             }
         }
     }
-    match add_descriptor(mem, place, &visited, &mut chain, number)? {
-        None => Ok(chain),
+    match add_descriptor(mem, place, &visited, chain, number)? {
+        None => Ok(()),
         Some(_) => Err(RingErr::TooMany(number)),
     }
 }

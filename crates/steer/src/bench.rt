@@ -17,7 +17,7 @@ use cap_table::DeviceCaps;
 use ff_headers::{Action, Headers, Steps};
 use guest_mem::GuestMem;
 use matcher::Tables;
-use split_queue::{DeviceEnd, DriverEnd};
+use split_queue::{Chain, DeviceEnd, DriverEnd};
 use std::alloc::{AllocError, Global};
 use std::marker::{Brand, Model};
 use std::sync::ledger::{Blank, Ledger};
@@ -31,6 +31,8 @@ pub struct Bench {
     mem: GuestMem,
     driver_end: DriverEnd,
     device_end: DeviceEnd,
+    // where the chain of a command is put, so that none is moved; no round sees what an earlier one left there
+    chain: Chain,
 }
 
 impl Model for Bench {
@@ -62,6 +64,7 @@ impl Bench {
             mem,
             driver_end,
             device_end,
+            chain: Chain::empty(),
         })
     }
 
@@ -79,13 +82,14 @@ impl Bench {
         ensures ring { HoldsCommand self.new.memory self.new.commands bytes.now room result.items }
     {
         let _head = post_command(&mut self.driver_end, &mut self.mem, bytes, room);
-        let chain = pop_chain(&mut self.device_end, &self.mem);
-        let command = chain.readable.as_slice();
-        let reply = obey(&mut self.device, &mut self.tables, command, chain.room());
+        pop_chain(&mut self.device_end, &self.mem, &mut self.chain);
+        let space = self.chain.room();
+        let command = self.chain.readable.as_slice();
+        let reply = obey(&mut self.device, &mut self.tables, command, space);
         give_back(
             &mut self.device_end,
             &mut self.mem,
-            &chain,
+            &self.chain,
             reply.as_slice(),
         );
         let _element = take_back(&mut self.driver_end, &self.mem);

@@ -75,13 +75,13 @@ pub(crate) fn post_command(
 }
 
 /// Takes the chain that stands next in the available ring.
-pub(crate) fn pop_chain(device_end: &mut DeviceEnd, mem: &GuestMem) -> Chain
+pub(crate) fn pop_chain(device_end: &mut DeviceEnd, mem: &GuestMem, chain: &mut Chain)
     requires memory { length mem.now ≡ device_end.old.mem_len }
-    requires some { (chain : Chain) × (pop_answer mem.now device_end.old.place device_end.old.next ≡ Ok (Some chain)) }
-    ensures value { pop_answer mem.now device_end.old.place device_end.old.next ≡ Ok (Some result) }
+    requires some { (next : Chain) × (pop_answer mem.now device_end.old.place device_end.old.next ≡ Ok (Some next)) }
+    ensures value { pop_answer mem.now device_end.old.place device_end.old.next ≡ Ok (Some chain.new) }
     ensures state { device_end.new ≡ after_pop device_end.old }
 {
-    device_end.pop(mem).unwrap().unwrap()
+    let _found = device_end.pop_into(mem, chain).unwrap();
 }
 
 /// Carries a command out: the device commits what it decided, and its change is made to the tables as well.

@@ -5,13 +5,13 @@ use Rattle.split_queue.specs.RingErrs.{HasWalkFault}
 use Rattle.split_queue.proofs.device_end.next_chain.Goals as goal
 
 pub returns-in-Ok-clause-head : goal.returns-in-Ok-clause-head
-returns-in-Ok-clause-head c = chain-head c.args.mem.now c.args.place c.available_head-head.result (omega arith) c.in-Ok.chain c.in-Ok.ensures ∙ c.available_head-head.ensures
+returns-in-Ok-clause-head c = λ _. chain-head c.args.mem.now c.args.place c.available_head-head.result (omega arith) c.fill_chain.new.chain c.in-Ok.ensures ∙ c.available_head-head.ensures
 
 pub returns-in-Ok-clause-walk : goal.returns-in-Ok-clause-walk
-returns-in-Ok-clause-walk c = chain-walk c.args.mem.now c.args.place c.available_head-head.result (omega arith) c.in-Ok.chain c.in-Ok.ensures
+returns-in-Ok-clause-walk c = λ _. chain-walk c.args.mem.now c.args.place c.available_head-head.result (omega arith) c.fill_chain.new.chain c.in-Ok.ensures
 
 pub returns-in-Ok-clause-inside : goal.returns-in-Ok-clause-inside
-returns-in-Ok-clause-inside c = pieces-inside c.args.mem.now c.args.place c.available_head-head.result c.in-Ok.chain c.in-Ok.ensures
+returns-in-Ok-clause-inside c = λ _. pieces-inside c.args.mem.now c.args.place c.available_head-head.result c.fill_chain.new.chain c.in-Ok.ensures
 
 pub returns-in-Err-clause-fault : goal.returns-in-Err-clause-fault
 returns-in-Err-clause-fault c =

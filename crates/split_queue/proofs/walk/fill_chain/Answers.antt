@@ -1,10 +1,10 @@
 use Rattle.std.proofs.Common.{arith}
 use Rattle.std.proofs.lemmas.Result.{err_from_is_err_and}
-use Rattle.split_queue.proofs.ChainSteps.{starts, follows, ends_at_fault, ends_at_last, ends_at_64th}
-use Rattle.split_queue.proofs.walk.chain_of.Goals as goal
+use Rattle.split_queue.proofs.ChainSteps.{starts_bare, follows, ends_at_fault, ends_at_last, ends_at_64th}
+use Rattle.split_queue.proofs.walk.fill_chain.Goals as goal
 
 pub loop-init : goal.loop-init
-loop-init c = rw (c.push.ensures.items, c.new-visited.ensures, c.new.ensures, c.new-2.ensures) (starts _ _ _ c.requires.head)
+loop-init c = starts_bare _ _ _ _ _ c.requires.head (rw c.new-visited.ensures at c.push.ensures.items) c.clear.ensures
 
 pub returns-in_err-add_descriptor : goal.returns-in_err-add_descriptor
 returns-in_err-add_descriptor c =
