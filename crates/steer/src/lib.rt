@@ -16,9 +16,11 @@
 //! between two commands, `HeldCommands` when a command lies in the ring, and `Rounds` the memory on the way.
 #![tactic(auto)]
 
+mod admin_line;
 mod bench;
 mod fresh;
 mod pieces;
 mod round;
 
+pub use admin_line::AdminLine;
 pub use bench::Bench;

@@ -22,7 +22,7 @@ use Rattle.vnff_run.specs.ItemLines.{admin_of, frame_of, item_of}
 use Rattle.vnff_run.specs.ScriptTexts.{device_words, is_selector, item_words, script_lines, script_text, select_words, selector_lines, version_words}
 use Rattle.vnff_run.specs.SelectLines.{is_select, selector_of}
 use Rattle.vnff_run.specs.Spellable.{IsCommand, IsFrame, IsItem, IsNamed, IsSpellable}
-use Rattle.vnff_run.specs.declared.script.AdminLine.{AdminLine}
+use Rattle.steer.specs.declared.admin_line.AdminLine.{AdminLine}
 use Rattle.vnff_run.specs.declared.script.Item.{Item}
 use Rattle.vnff_run.specs.declared.script.Item.TheVariants.{Admin, Frame}
 use Rattle.vnff_run.specs.declared.script.Reason.{Reason}

@@ -3,7 +3,7 @@ use Rattle.std.specs.Prelude.{ℕ, ◌≤◌, if◌then◌else◌, List, [], ◌
 use Rattle.std.specs.Str.{bytes_eq}
 use Rattle.vnff_run.specs.Results.{◌>>=◌}
 use Rattle.vnff_run.specs.Words.{bytes_within, number_within}
-use Rattle.vnff_run.specs.declared.script.AdminLine.{AdminLine}
+use Rattle.steer.specs.declared.admin_line.AdminLine.{AdminLine}
 use Rattle.vnff_run.specs.declared.script.Item.{Item}
 use Rattle.vnff_run.specs.declared.script.Item.TheVariants.{Admin, Frame}
 use Rattle.vnff_run.specs.declared.script.Reason.{Reason}

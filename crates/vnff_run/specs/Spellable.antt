@@ -4,7 +4,7 @@ use Rattle.ff_headers.specs.SelectorParts.{SelectorParts}
 use Rattle.vnff_base.specs.Bytes.{IsBytes}
 use Rattle.cap_table.specs.Caps.{AreCaps}
 use Rattle.vnff_run.specs.ItemLines.{IsCommandWithin, most_frame}
-use Rattle.vnff_run.specs.declared.script.AdminLine.{AdminLine}
+use Rattle.steer.specs.declared.admin_line.AdminLine.{AdminLine}
 use Rattle.vnff_run.specs.declared.script.Item.{Item}
 use Rattle.vnff_run.specs.declared.script.Item.TheVariants.{Admin, Frame}
 use Rattle.vnff_run.specs.declared.script.Script.{Script}

@@ -5,9 +5,10 @@ ghost use Rattle.vnff_base.specs.Lines.{words_of};
 ghost use Rattle.vnff_run.specs.ItemLines.{admin_of, frame_of, item_of};
 ghost use Rattle.vnff_run.specs.Readings.{IsLineFaultOf};
 
-use crate::script::{AdminLine, Item, LineFault, Reason};
+use crate::script::{Item, LineFault, Reason};
 use crate::word::{bytes_within, number_within, one_word, two_words};
 use std::alloc::Global;
+use steer::AdminLine;
 use vnff_base::text::first_word;
 
 /// The most bytes of a command.

@@ -55,4 +55,5 @@ mod word;
 pub use ending::{DONE, FAULTY_WORDS, NO_MEMORY, READ_FAULT, REFUSED, WRITE_FAULT};
 pub use grammar::{read_device_file, read_script};
 pub use program::plain;
-pub use script::{AdminLine, Item, Reason, Script, ScriptFault};
+pub use script::{Item, Reason, Script, ScriptFault};
+pub use steer::AdminLine;

@@ -13,11 +13,11 @@ ghost use Rattle.ff_headers.specs.Places.{action_of};
 ghost use Rattle.cap_table.specs.Steps.{reply_of, next_state};
 
 use crate::file::script_in;
-use crate::script::{AdminLine, Item, Script};
+use crate::script::{Item, Script};
 use crate::stop::Stop;
 use crate::text::{put_frame_line, put_reply_line};
 use std::alloc::Global;
-use steer::Bench;
+use steer::{AdminLine, Bench};
 use vnff_base::{Failed, Gathered, Out, Shelf};
 
 /// Replays the script in a file.

@@ -8,19 +8,13 @@ ghost use Rattle.vnff_run.specs.declared.script.ScriptFault.TheVariants as fault
 use admin_dev::Start;
 use cap_table::DeviceCaps;
 use std::alloc::AllocError;
+use steer::AdminLine;
 use vnff_base::List;
-
-/// A command of a script with the room for its reply. What `read_script` gives has 1 to 1,024 bytes and a room of at
-/// most 4,096 bytes.
-#[derive(Debug, Drop)]
-pub struct AdminLine {
-    pub bytes: List<u8>,
-    pub room: u32,
-}
 
 /// What a line of a script asks for.
 #[derive(Debug, Drop)]
 pub enum Item {
+    /// A command. What `read_script` gives has 1 to 1,024 bytes and a room of at most 4,096 bytes.
     Admin(AdminLine),
     /// A frame. What `read_script` gives has at most 262,144 bytes.
     Frame(List<u8>),
