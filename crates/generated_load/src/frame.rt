@@ -1,12 +1,18 @@
 //! The frames of a seed, one at a time.
 
 ghost use Rattle.std.specs.Prelude.{◌≡◌};
-ghost use Rattle.generated_load.specs.DrawnFrames.{drawn_datagram, drawn_frame, frame_bytes};
+ghost use Rattle.generated_load.specs.DrawnFrames.{drawn_datagram, drawn_frame, frame_bytes, port_bytes};
 
 use crate::draws::draw;
 
 /// How many bytes a frame has.
 pub const FRAME_BYTES: usize = 54;
+
+/// The type that names an IPv4 header.
+const ETHER_TYPE: [u8; 2] = [0x08, 0x00];
+
+/// What an IPv4 header of 20 bytes has before its protocol: a total length of 40 bytes, and 64 hops.
+const IP_START: [u8; 9] = [0x45, 0x00, 0x00, 0x28, 0x00, 0x00, 0x00, 0x00, 0x40];
 
 /// The protocol of TCP.
 const TCP: u8 = 6;
@@ -64,73 +70,20 @@ fn drawn_datagram(x: u64) -> (u64, Datagram)
 fn frame_bytes(datagram: Datagram) -> [u8; FRAME_BYTES]
     ensures { result ≡ frame_bytes datagram }
 {
-    let Datagram {
-        protocol,
-        source_net,
-        source_host,
-        destination_net,
-        destination_host,
-        source_port,
-        destination_port,
-    } = datagram;
-    let source_high = (source_port / 256) as u8;
-    let source_low = (source_port % 256) as u8;
-    let destination_high = (destination_port / 256) as u8;
-    let destination_low = (destination_port % 256) as u8;
-    [
-        0,
-        0,
-        0,
-        0,
-        0,
-        0,
-        0,
-        0,
-        0,
-        0,
-        0,
-        0,
-        0x08,
-        0x00,
-        0x45,
-        0x00,
-        0x00,
-        0x28,
-        0x00,
-        0x00,
-        0x00,
-        0x00,
-        0x40,
-        protocol,
-        0x00,
-        0x00,
-        10,
-        0,
-        source_net,
-        source_host,
-        10,
-        1,
-        destination_net,
-        destination_host,
-        source_high,
-        source_low,
-        destination_high,
-        destination_low,
-        0,
-        0,
-        0,
-        0,
-        0,
-        0,
-        0,
-        0,
-        0,
-        0,
-        0,
-        0,
-        0,
-        0,
-        0,
-        0,
-    ]
+    let mut frame = [0; FRAME_BYTES];
+    frame[12..14].copy_from_slice(&ETHER_TYPE);
+    frame[14..23].copy_from_slice(&IP_START);
+    frame[23] = datagram.protocol;
+    frame[26..30].copy_from_slice(&[10, 0, datagram.source_net, datagram.source_host]);
+    frame[30..34].copy_from_slice(&[10, 1, datagram.destination_net, datagram.destination_host]);
+    frame[34..36].copy_from_slice(&port_bytes(datagram.source_port));
+    frame[36..38].copy_from_slice(&port_bytes(datagram.destination_port));
+    frame
+}
+
+/// The two bytes of a port.
+fn port_bytes(port: u16) -> [u8; 2]
+    ensures { result ≡ port_bytes port }
+{
+    [(port / 256) as u8, (port % 256) as u8]
 }
