@@ -1,14 +1,15 @@
 -- Counts of actions, one more at a time.
-use Rattle.std.proofs.Common.{◌≡◌, ℕ, ◌+◌, ◌<◌, ◌≤◌, ◌⊎◌, Bool, true, false, cond, List, [], ◌∷◌, ◌++◌, length, map, get_or, set, count_by, ◌≢◌, eqb, refl, sym, ap, ◌∙◌, inl, inr, zero-add, add-zero, eq-eqb, subst, arith}
+use Rattle.std.proofs.Common.{◌≡◌, ℕ, ◌+◌, ◌<◌, ◌≤◌, ◌⊎◌, Bool, true, false, cond, List, [], ◌∷◌, ◌++◌, length, map, get_or, set, count_by, ◌≢◌, eqb, refl, sym, ap, ◌∙◌, inl, inr, ⊎_elim, zero-add, add-zero, eq-eqb, subst, arith}
 use Rattle.std.specs.Prelude.{◌==◌}
 use Rattle.std.specs.List.{range_with_len}
+use Rattle.std.proofs.lemmas.Bool.{cases_lt}
 use Rattle.std.proofs.lemmas.Bool.Decides.{eqb_tells}
-use Rattle.std.proofs.lemmas.List.{ext_get_or, get_or-set_other, get_or-set_same, length-set}
+use Rattle.std.proofs.lemmas.List.{ext_get_or, get_or_past, get_or-set_other, get_or-set_same, length-set}
 use Rattle.std.proofs.lemmas.List.FromFn.{get_or-map-range_with_len, length-map-range_with_len}
 use Rattle.std.proofs.lemmas.List.Sums.{count_by-le-length, sum_by-append}
 use Rattle.ff_headers.specs.declared.rule.Action.{Action}
 use Rattle.ff_headers.specs.declared.rule.Action.TheVariants.{Default, Drop, Queue}
-use Rattle.generated_load.specs.Counts.{counts_of, is_default, is_drop, is_queue}
+use Rattle.generated_load.specs.Counts.{AreBelow, counts_of, is_default, is_drop, is_queue}
 use Rattle.generated_load.specs.declared.counts.ActionCounts.{ActionCounts}
 
 -- different numbers
@@ -33,6 +34,13 @@ queue_counts-length actions = length-map-range_with_len (λ number. count_by (is
 
 pub queue_counts-at : (actions : List Action) (queue d : ℕ) → queue < 16 → get_or (queue_counts actions) queue d ≡ count_by (is_queue queue) actions
 queue_counts-at actions queue d within = get_or-map-range_with_len (λ number. count_by (is_queue number) actions) 0 16 queue queue d within (zero-add queue)
+
+queue_counts-small : (actions : List Action) (queue : ℕ) → get_or (queue_counts actions) queue 0 ≤ length actions
+queue_counts-small actions queue =
+    ⊎_elim
+    (λ inside. rw (queue_counts-at actions queue 0 inside) (count_by-le-length (is_queue queue) actions))
+    (λ past. rw (get_or_past (queue_counts actions) queue 0 (omega (arith, past, queue_counts-length actions))) (omega arith))
+    (cases_lt queue 16)
 
 -- actions that are no queue's leave them
 pub queues_same : (actions : List Action) (action : Action) → ((number : ℕ) → number < 16 → is_queue number action ≡ false) → queue_counts (actions ++ action ∷ []) ≡ queue_counts actions
@@ -82,17 +90,14 @@ same_counts d e f h q r drops defaults queues = rw (drops, defaults, queues) ref
 
 module _ (counts : ActionCounts) (actions : List Action) (is : counts ≡ counts_of actions) where
   -- no count is more than the actions
-  pub counts-small : (counts.drop ≤ length actions) × (counts.default ≤ length actions)
+  pub counts-below : (limit : ℕ) → length actions < limit → AreBelow limit counts
   unfolding counts_of
-  counts-small =
-      let P : ActionCounts → Type 0 = λ c. (c.drop ≤ length actions) × (c.default ≤ length actions) in
-      subst P (sym is) (count_by-le-length is_drop actions, count_by-le-length is_default actions)
-
-  pub queue-small : (queue : ℕ) → queue < 16 → get_or counts.queues queue 0 ≤ length actions
-  unfolding counts_of
-  queue-small queue place =
-      let P : ActionCounts → Type 0 = λ c. get_or c.queues queue 0 ≤ length actions in
-      subst P (sym is) (rw (queue_counts-at actions queue 0 place) (count_by-le-length (is_queue queue) actions))
+  counts-below limit few =
+      subst (AreBelow limit) (sym is) (record {
+        drop = omega (arith, few, count_by-le-length is_drop actions);
+        default = omega (arith, few, count_by-le-length is_default actions);
+        queues = λ queue. omega (arith, few, queue_counts-small actions queue);
+      })
 
   pub counts-drop : record counts { drop = counts.drop + 1 } ≡ counts_of (actions ++ Drop ∷ [])
   unfolding counts_of

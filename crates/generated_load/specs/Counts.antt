@@ -1,5 +1,5 @@
 -- How often each action happened. This project's own.
-use Rattle.std.specs.Prelude.{ℕ, Bool, true, false, ◌==◌, List, map, count_by}
+use Rattle.std.specs.Prelude.{ℕ, ◌<◌, slice_index, Bool, true, false, ◌==◌, List, map, count_by}
 use Rattle.std.specs.List.{range_with_len}
 use Rattle.ff_headers.specs.declared.rule.Action.{Action}
 use Rattle.ff_headers.specs.declared.rule.Action.TheVariants.{Default, Drop, Queue}
@@ -17,6 +17,12 @@ is_default _ = false
 abbrev pub is_queue : ℕ → Action → Bool
 is_queue number (Queue queue) = queue == number
 is_queue number _ = false
+
+-- each count is below a limit
+pub record AreBelow (limit : ℕ) (counts : ActionCounts) : Type 0 where
+  pub drop : counts.drop < limit
+  pub default : counts.default < limit
+  pub queues : (queue : ℕ) → slice_index counts.queues queue < limit
 
 -- how many of the actions are drops, defaults, and each of the queues 0 to 15
 unfoldable pub counts_of : List Action → ActionCounts

@@ -1,8 +1,8 @@
 //! How often each action happened.
 
-ghost use Rattle.std.specs.Prelude.{◌≡◌, ◌<◌, ◌^◌, List, [], ◌∷◌, ◌++◌, length};
+ghost use Rattle.std.specs.Prelude.{◌≡◌, ◌^◌, List, [], ◌∷◌, ◌++◌};
 ghost use Rattle.ff_headers.specs.declared.rule.Action.{Action as Done};
-ghost use Rattle.generated_load.specs.Counts.{counts_of};
+ghost use Rattle.generated_load.specs.Counts.{AreBelow, counts_of};
 
 use ff_headers::Action;
 
@@ -33,10 +33,9 @@ impl ActionCounts {
     /// Counts one more action. A queue past the last one is counted nowhere.
     #[tactic(auto, unfolding(crate::specs::Counts::counts_of))]
     pub fn add(&mut self, action: Action)
-        ghost actions: { List Done }
-        requires counted { self.old ≡ counts_of actions }
-        requires few { length actions < 2 ^ 32 }
-        ensures { self.new ≡ counts_of (actions ++ action ∷ []) }
+        requires { AreBelow (2 ^ 32) self.old }
+        ensures { (actions : List Done) → self.old ≡ counts_of actions
+            → self.new ≡ counts_of (actions ++ action ∷ []) }
     {
         match action {
             Action::Drop => self.drop += 1,
