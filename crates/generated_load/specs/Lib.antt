@@ -1,0 +1,4 @@
+pub mod Draws
+pub mod DrawnTables
+pub mod DrawnFrames
+pub mod Counts
