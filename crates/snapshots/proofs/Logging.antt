@@ -1,9 +1,9 @@
 -- A log stands for its reads still when the list has grown, and when one read more was logged.
-use Rattle.std.proofs.Common.{◌≡◌, ℕ, zero, suc, ◌+◌, ◌-◌, ◌<◌, ◌≤◌, ◌^◌, min, Bool, true, false, not, cond, fold, List, [], ◌∷◌, ◌++◌, length, take, get_or, nat_lt, Some, slice_get, All, refl, ap, sym, subst, ◌∙◌, ◌⊎◌, inl, inr, arith, length-append, le_trans}
+use Rattle.std.proofs.Common.{◌≡◌, ℕ, zero, suc, ◌+◌, ◌-◌, ◌<◌, ◌≤◌, ◌^◌, true, not, cond, fold, List, [], ◌∷◌, ◌++◌, length, take, get_or, nat_lt, Some, slice_get, All, refl, ap, sym, subst, ◌∙◌, ◌⊎◌, inl, inr, arith, length-append, le_trans}
 use Rattle.std.proofs.lemmas.List.{take-append-le}
 use Rattle.std.proofs.lemmas.Option.{slice_get-get_or}
 use Rattle.std.proofs.lemmas.List.Sums.{count_by-le-length, sum_by-append}
-use Rattle.std.specs.List.{count_by, sum_by}
+use Rattle.std.specs.List.{sum_by}
 use Rattle.std.proofs.lemmas.Bool.Decides.{nat_tests}
 use mathlib.Core.List.{IsPrefix}
 use Rattle.ff_headers.specs.Frames.{headers_of}
