@@ -1,2 +1,3 @@
 pub mod ScanLemmas
 pub mod FoundLemmas
+pub mod RowLemmas

@@ -1,3 +1,5 @@
 pub mod Tables
 pub mod Findings
 pub mod Candidates
+pub mod Keys
+pub mod Rows

@@ -16,6 +16,7 @@
 
 mod found;
 pub mod laws;
+mod rows;
 mod scan;
 mod tables;
 

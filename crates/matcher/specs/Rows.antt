@@ -1,0 +1,82 @@
+-- How rules are kept for a search: as rows, by shape, then by masked key, then by place. This project's own.
+use Rattle.std.specs.Prelude.{◌≡◌, ◌≢◌, ℕ, ◌<◌, ◌==◌, Option, Some, None, List, [], length, slice_index_or, Contains, if◌then◌else◌}
+use Rattle.std.specs.Option.{option_map, option_map_or}
+use Rattle.std.specs.Ordering.{nat_cmp, ordering_then}
+use Rattle.std.specs.declared.cmp.Ordering.{Ordering}
+use Rattle.std.specs.declared.cmp.Ordering.TheVariants.{Less}
+use Rattle.std.specs.Cmp.Lexicographic.{slice_cmp}
+use Rattle.ff_headers.specs.SelectorParts.{SelectorParts}
+use Rattle.ff_headers.specs.Objects.{FlowObjects, object_under}
+use Rattle.ff_headers.specs.Places.{RuleEntry, place_cmp}
+use Rattle.matcher.specs.Candidates.{candidate_of}
+use Rattle.matcher.specs.Keys.{Shape, shape_of, masked_key}
+use Rattle.matcher.specs.declared.scan.Candidate.{Candidate}
+use Rattle.matcher.specs.declared.rows.Row.{Row}
+
+-- what is kept of a rule: the shape of its classifier, its masked key, its place and what it does
+pub record Kept : Type 0 where
+  pub shape : Shape
+  pub key : List ℕ
+  pub candidate : Candidate
+
+-- what is kept of a rule with these selectors
+abbrev pub kept_with : FlowObjects → RuleEntry → List SelectorParts → Kept
+kept_with objects entry selectors = record {
+  shape = shape_of selectors;
+  key = masked_key selectors entry.1.key;
+  candidate = candidate_of objects entry;
+}
+
+-- what is kept of a rule, where its classifier is held
+abbrev pub kept_of : FlowObjects → RuleEntry → Option Kept
+kept_of objects entry = option_map (kept_with objects entry) (object_under objects.classifiers entry.1.classifier)
+
+-- what is kept of the rule under an id, where one is held
+unfoldable pub kept_under : FlowObjects → ℕ → Option Kept
+kept_under objects id = option_map_or (λ rule. kept_of objects (id, rule)) (object_under objects.rules id) None
+
+-- the same, but for one id
+abbrev pub with_kept : (ℕ → Option Kept) → ℕ → Option Kept → ℕ → Option Kept
+with_kept kept id one other = if other == id then one else kept other
+
+-- the id of a row's rule
+abbrev pub id_of : Row → ℕ
+id_of row = row.candidate.place.2
+
+-- rows are ordered by shape number, then by key, then by place
+abbrev pub row_cmp : Row → Row → Ordering
+row_cmp a b =
+    ordering_then (nat_cmp a.shape b.shape)
+    (ordering_then (slice_cmp nat_cmp a.key.items b.key.items) (place_cmp a.candidate.place b.candidate.place))
+
+-- the selectors of a shape's number
+abbrev pub selectors_at : List (List SelectorParts) → ℕ → List SelectorParts
+selectors_at shapes number = slice_index_or shapes number []
+
+-- a row is what is kept of a rule
+pub record IsRow (shapes : List (List SelectorParts)) (row : Row) (kept : Kept) : Type 0 where
+  pub within : row.shape < length shapes
+  pub shape : shape_of (selectors_at shapes row.shape) ≡ kept.shape
+  pub key : row.key.items ≡ kept.key
+  pub candidate : row.candidate ≡ kept.candidate
+
+-- a row is what is kept under its id
+abbrev pub IsSound : (ℕ → Option Kept) → List (List SelectorParts) → Row → Type 0
+IsSound kept shapes row = (one : Kept) × (kept (id_of row) ≡ Some one) × IsRow shapes row one
+
+-- each row is before those after it
+abbrev pub AreRising : List Row → Type 0
+AreRising rows =
+    (i j : ℕ) (d : Row) → i < j → j < length rows → row_cmp (slice_index_or rows i d) (slice_index_or rows j d) ≡ Less
+
+-- no two of the numbers have one shape
+abbrev pub AreApart : List (List SelectorParts) → Type 0
+AreApart shapes =
+    (i j : ℕ) → i < j → j < length shapes → shape_of (selectors_at shapes i) ≢ shape_of (selectors_at shapes j)
+
+-- the rows are all that is kept, in order, and each shape has one number
+pub record AreRows (kept : ℕ → Option Kept) (shapes : List (List SelectorParts)) (rows : List Row) : Type 0 where
+  pub apart : AreApart shapes
+  pub rising : AreRising rows
+  pub sound : (row : Row) → Contains rows row → IsSound kept shapes row
+  pub complete : (id : ℕ) (one : Kept) → kept id ≡ Some one → (row : Row) × Contains rows row × (id_of row ≡ id)
