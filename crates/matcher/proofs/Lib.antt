@@ -1,3 +1,4 @@
 pub mod ScanLemmas
 pub mod FoundLemmas
 pub mod RowLemmas
+pub mod KeyLemmas
