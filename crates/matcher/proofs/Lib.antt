@@ -2,3 +2,5 @@ pub mod ScanLemmas
 pub mod FoundLemmas
 pub mod RowLemmas
 pub mod KeyLemmas
+pub mod Pigeonhole
+pub mod ShapeLemmas

@@ -2,7 +2,8 @@
 use Rattle.std.proofs.Common.{◌≡◌, ◌≢◌, ℕ, suc, ◌+◌, ◌-◌, ◌<◌, ◌≤◌, Bool, true, false, cond, eqb, List, [], ◌∷◌, ◌++◌, length, get_or, Option, Some, None, Ordering, refl, sym, ap, ◌∙◌, ◌⊎◌, inl, inr, subst, arith, Contains}
 use Rattle.std.proofs.lemmas.Bool.{cases_lt}
 use Rattle.std.specs.List.{insert, remove}
-use Rattle.std.specs.Ordering.{nat_cmp, ordering_then}
+use Rattle.std.specs.List.Sorted.{IsPartitionedBy, IsPartitionPoint}
+use Rattle.std.specs.Ordering.{nat_cmp, ordering_then, ordering_reverse, is_lt}
 use Rattle.std.specs.declared.cmp.Ordering.TheVariants.{Less, Equal, Greater}
 use Rattle.std.specs.Cmp.{IsTotalOrder, nat_cmp_total, tied_itself}
 use Rattle.std.specs.Cmp.Lexicographic.{slice_cmp}
@@ -15,12 +16,39 @@ use Rattle.ff_headers.specs.Places.{place_cmp}
 use Rattle.ff_headers.proofs.OrderLemmas.{then_total}
 use Rattle.ff_headers.proofs.PlaceLemmas.{place_total}
 use Rattle.matcher.specs.Keys.{Shape, shape_of}
-use Rattle.matcher.specs.Rows.{Kept, with_kept, id_of, row_cmp, selectors_at, IsRow, IsSound, AreRising, AreApart, AreRows}
+use Rattle.matcher.specs.Rows.{Kept, with_kept, id_of, row_cmp, cmp_in_shape, stands_before, selectors_at, IsRow, IsSound, AreRising, AreApart, AreRows}
 use Rattle.matcher.specs.declared.scan.Candidate.{Candidate}
 use Rattle.matcher.specs.declared.rows.Row.{Row}
 
 pub row_total : IsTotalOrder row_cmp
 row_total = then_total (λ (r : Row). r.shape) (λ (r : Row). r) nat_cmp_total (then_total (λ (r : Row). r.key.items) (λ (r : Row). r.candidate.place) nat_list_cmp_total place_total)
+
+-- what an order that is or isn't `Less` says
+less_from_test : (o : Ordering) → is_lt o ≡ true → o ≡ Less
+less_from_test Less h = refl
+less_from_test Equal h = absurd cc
+less_from_test Greater h = absurd cc
+
+by_order : (o p : Ordering) → p ≡ ordering_reverse o → is_lt o ≡ false → (o ≡ Equal → ⊥) → p ≡ Less
+by_order Less p turned h off = absurd cc
+by_order Equal p turned h off = absurd (off refl)
+by_order Greater p turned h off = turned
+
+level_parts : (o p : Ordering) → ordering_then o p ≡ Equal → p ≡ Equal
+level_parts Less p h = absurd cc
+level_parts Equal p h = h
+level_parts Greater p h = absurd cc
+
+same_from_level : (m n : ℕ) → nat_cmp m n ≡ Equal → m ≡ n
+same_from_level m n h = grind (arith, nat_tests)
+
+ids_level : (a b : Row) → row_cmp a b ≡ Equal → id_of a ≡ id_of b
+ids_level a b h =
+    let by_key : cmp_in_shape a b ≡ Equal = level_parts (nat_cmp a.shape b.shape) (cmp_in_shape a b) h in
+    let by_place : place_cmp a.candidate.place b.candidate.place ≡ Equal = level_parts (slice_cmp nat_cmp a.key.items b.key.items) _ by_key in
+    let by_rule = level_parts (nat_cmp a.candidate.place.0 b.candidate.place.0) (ordering_then (nat_cmp a.candidate.place.1 b.candidate.place.1) (nat_cmp a.candidate.place.2 b.candidate.place.2)) by_place in
+    let by_id : nat_cmp a.candidate.place.2 b.candidate.place.2 ≡ Equal = level_parts (nat_cmp a.candidate.place.1 b.candidate.place.1) (nat_cmp a.candidate.place.2 b.candidate.place.2) by_rule in
+    same_from_level a.candidate.place.2 b.candidate.place.2 by_id
 
 -- ---- other words for what is kept
 
@@ -222,3 +250,29 @@ module _ (kept : ℕ → Option Kept) (shapes : List (List SelectorParts)) (rows
           let long = length-insert rows p row inside in
           (row, (p, omega arith, get_or-insert_at rows p row row inside), is_id ∙ sym same)
       by_test q two false e is = let c = was.complete q two is in (c.0, to_inserted c.0 c.1, c.2)
+
+  -- ---- where a row goes
+
+  module _ (row : Row) (id : ℕ) (free : kept (id_of row) ≡ None) where
+    -- the rows before it stand at the front
+    pub parted : IsPartitionedBy (λ (held : Row). stands_before held row) rows
+    unfolding stands_before
+    parted i j d le within before = elim (cases_lt i j) [
+      | inl lt ↦ ap is_lt (row_total.trans (get_or rows i d) (get_or rows j d) row (was.rising i j d lt within) (less_from_test _ before))
+      | inr ge ↦ let same : i ≡ j = omega arith in ap (λ (n : ℕ). is_lt (row_cmp (get_or rows n d) row)) same ∙ before
+    ]
+
+    -- no row is level with it
+    behind_it : (held : Row) → Contains rows held → stands_before held row ≡ false → row_cmp row held ≡ Less
+    unfolding stands_before
+    behind_it held has h =
+        by_order (row_cmp held row) (row_cmp row held) (row_total.antisymm row held) h (λ e.
+        let s = was.sound held has in
+        let same : id_of held ≡ id_of row = ids_level held row e in
+        let h : None ≡ Some s.0 = sym free ∙ ap kept (sym same) ∙ s.1 in cc)
+
+    pub rows_put_at : (p : ℕ) (one : Kept) → p ≤ length rows → IsPartitionPoint (λ (held : Row). stands_before held row ≡ true) (λ (held : Row). stands_before held row ≡ false) rows p → IsRow shapes row one → AreRows (with_kept kept (id_of row) (Some one)) shapes (insert rows p row)
+    unfolding stands_before
+    rows_put_at p one inside parts is_row =
+        rows_put p row inside (id_of row) one free refl is_row (λ i d lt. less_from_test _ (parts.0 i d (omega arith) lt)) (λ j d le within. behind_it (get_or rows j d) (has_at j d within) (parts.1 j d le within))
+

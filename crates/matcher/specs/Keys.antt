@@ -11,9 +11,13 @@ use Rattle.ff_headers.specs.declared.kind.Kind.{Kind}
 abbrev pub Shape : Type 0
 Shape = List (Kind × List ℕ)
 
--- the kinds and masks of the selectors: their flags don't count
+-- a selector's kind and mask: its flags don't count
+abbrev pub part_of : SelectorParts → Kind × List ℕ
+part_of s = (s.kind, s.mask)
+
+-- the kinds and masks of the selectors
 abbrev pub shape_of : List SelectorParts → Shape
-shape_of selectors = map (λ s. (s.kind, s.mask)) selectors
+shape_of selectors = map part_of selectors
 
 -- the bits of a key that the selectors compare
 abbrev pub masked_key : List SelectorParts → List ℕ → List ℕ

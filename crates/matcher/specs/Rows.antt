@@ -1,7 +1,8 @@
 -- How rules are kept for a search: as rows, by shape, then by masked key, then by place. This project's own.
-use Rattle.std.specs.Prelude.{◌≡◌, ◌≢◌, ℕ, ◌<◌, ◌==◌, Option, Some, None, List, [], length, slice_index_or, Contains, if◌then◌else◌}
+use Rattle.std.specs.Prelude.{◌≡◌, Bool, true, ◌≢◌, ℕ, ◌<◌, ◌==◌, Option, Some, None, List, [], length, slice_index_or, Contains, if◌then◌else◌}
+use Rattle.std.specs.List.{list_any}
 use Rattle.std.specs.Option.{option_map, option_map_or}
-use Rattle.std.specs.Ordering.{nat_cmp, ordering_then}
+use Rattle.std.specs.Ordering.{nat_cmp, ordering_then, is_lt}
 use Rattle.std.specs.declared.cmp.Ordering.{Ordering}
 use Rattle.std.specs.declared.cmp.Ordering.TheVariants.{Less}
 use Rattle.std.specs.Cmp.Lexicographic.{slice_cmp}
@@ -43,11 +44,18 @@ with_kept kept id one other = if other == id then one else kept other
 abbrev pub id_of : Row → ℕ
 id_of row = row.candidate.place.2
 
+-- rows of one shape are ordered by key, then by place
+abbrev pub cmp_in_shape : Row → Row → Ordering
+cmp_in_shape a b =
+    ordering_then (slice_cmp nat_cmp a.key.items b.key.items) (place_cmp a.candidate.place b.candidate.place)
+
 -- rows are ordered by shape number, then by key, then by place
 abbrev pub row_cmp : Row → Row → Ordering
-row_cmp a b =
-    ordering_then (nat_cmp a.shape b.shape)
-    (ordering_then (slice_cmp nat_cmp a.key.items b.key.items) (place_cmp a.candidate.place b.candidate.place))
+row_cmp a b = ordering_then (nat_cmp a.shape b.shape) (cmp_in_shape a b)
+
+-- whether one row comes before another
+unfoldable pub stands_before : Row → Row → Bool
+stands_before a b = is_lt (row_cmp a b)
 
 -- the selectors of a shape's number
 abbrev pub selectors_at : List (List SelectorParts) → ℕ → List SelectorParts
@@ -80,3 +88,11 @@ pub record AreRows (kept : ℕ → Option Kept) (shapes : List (List SelectorPar
   pub rising : AreRising rows
   pub sound : (row : Row) → Contains rows row → IsSound kept shapes row
   pub complete : (id : ℕ) (one : Kept) → kept id ≡ Some one → (row : Row) × Contains rows row × (id_of row ≡ id)
+
+-- no number has the selectors' shape
+abbrev pub IsNew : List (List SelectorParts) → List SelectorParts → Type 0
+IsNew shapes selectors = (i : ℕ) → i < length shapes → shape_of (selectors_at shapes i) ≢ shape_of selectors
+
+-- some row has each number
+abbrev pub AreUsed : List (List SelectorParts) → List Row → Type 0
+AreUsed shapes rows = (i : ℕ) → i < length shapes → list_any (λ row. row.shape == i) rows ≡ true

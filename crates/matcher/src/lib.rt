@@ -19,6 +19,7 @@ mod keys;
 pub mod laws;
 mod rows;
 mod scan;
+mod shapes;
 mod tables;
 
 pub use found::Found;
