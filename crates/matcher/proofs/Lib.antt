@@ -4,3 +4,5 @@ pub mod RowLemmas
 pub mod KeyLemmas
 pub mod Pigeonhole
 pub mod ShapeLemmas
+pub mod RoomLemmas
+pub mod IndexLemmas

@@ -3,3 +3,4 @@ pub mod Findings
 pub mod Candidates
 pub mod Keys
 pub mod Rows
+pub mod Indexes

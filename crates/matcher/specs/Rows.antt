@@ -1,5 +1,5 @@
 -- How rules are kept for a search: as rows, by shape, then by masked key, then by place. This project's own.
-use Rattle.std.specs.Prelude.{◌≡◌, Bool, true, ◌≢◌, ℕ, ◌<◌, ◌==◌, Option, Some, None, List, [], length, slice_index_or, Contains, if◌then◌else◌}
+use Rattle.std.specs.Prelude.{◌≡◌, Bool, true, ◌≢◌, ℕ, ◌<◌, ◌==◌, Option, Some, None, List, [], length, slice_index_or, Contains, IsSome, map, take, unwrap_or, if◌then◌else◌}
 use Rattle.std.specs.List.{list_any}
 use Rattle.std.specs.Option.{option_map, option_map_or}
 use Rattle.std.specs.Ordering.{nat_cmp, ordering_then, is_lt}
@@ -8,8 +8,9 @@ use Rattle.std.specs.declared.cmp.Ordering.TheVariants.{Less}
 use Rattle.std.specs.Cmp.Lexicographic.{slice_cmp}
 use Rattle.ff_headers.specs.SelectorParts.{SelectorParts}
 use Rattle.ff_headers.specs.Objects.{FlowObjects, object_under}
-use Rattle.ff_headers.specs.Places.{RuleEntry, place_cmp}
-use Rattle.matcher.specs.Candidates.{candidate_of}
+use Rattle.ff_headers.specs.Places.{RuleEntry, place_cmp, action_with}
+use Rattle.ff_headers.specs.Changes.{with_change_made}
+use Rattle.ff_headers.specs.declared.change.Change.TheVariants.{PutGroup}
 use Rattle.matcher.specs.Keys.{Shape, shape_of, masked_key}
 use Rattle.matcher.specs.declared.scan.Candidate.{Candidate}
 use Rattle.matcher.specs.declared.rows.Row.{Row}
@@ -20,25 +21,61 @@ pub record Kept : Type 0 where
   pub key : List ℕ
   pub candidate : Candidate
 
--- what is kept of a rule with these selectors
-abbrev pub kept_with : FlowObjects → RuleEntry → List SelectorParts → Kept
-kept_with objects entry selectors = record {
-  shape = shape_of selectors;
-  key = masked_key selectors entry.1.key;
-  candidate = candidate_of objects entry;
+-- a rule whose group has a priority, as a candidate
+abbrev pub candidate_with : ℕ → RuleEntry → Candidate
+candidate_with group_priority entry = record {
+  place = (group_priority, entry.1.priority, entry.0);
+  action = action_with entry.1.action entry.1.vq;
 }
 
--- what is kept of a rule, where its classifier is held
+-- what is kept of a rule with these selectors, whose group has a priority
+abbrev pub kept_with : ℕ → RuleEntry → List SelectorParts → Kept
+kept_with group_priority entry selectors = record {
+  shape = shape_of selectors;
+  key = masked_key selectors entry.1.key;
+  candidate = candidate_with group_priority entry;
+}
+
+-- the same, where the rule's classifier is held
+abbrev pub kept_by : FlowObjects → ℕ → RuleEntry → Option Kept
+kept_by objects group_priority entry =
+    option_map (kept_with group_priority entry) (object_under objects.classifiers entry.1.classifier)
+
+-- the priority of a group; one that isn't held counts as 0
+abbrev pub priority_of : FlowObjects → ℕ → ℕ
+priority_of objects group = unwrap_or (object_under objects.groups group) 0
+
+-- what is kept of a rule
 abbrev pub kept_of : FlowObjects → RuleEntry → Option Kept
-kept_of objects entry = option_map (kept_with objects entry) (object_under objects.classifiers entry.1.classifier)
+kept_of objects entry = kept_by objects (priority_of objects entry.1.group) entry
 
 -- what is kept of the rule under an id, where one is held
 unfoldable pub kept_under : FlowObjects → ℕ → Option Kept
 kept_under objects id = option_map_or (λ rule. kept_of objects (id, rule)) (object_under objects.rules id) None
 
+-- the shapes of the classifiers
+abbrev pub held_shapes : FlowObjects → List Shape
+held_shapes objects = map (λ e. shape_of e.1) objects.classifiers
+
+-- what is kept is of held rules and held classifiers
+abbrev pub AreHeld : FlowObjects → (ℕ → Option Kept) → Type 0
+AreHeld objects kept = (id : ℕ) (one : Kept) → kept id ≡ Some one
+    → IsSome (object_under objects.rules id) × Contains (held_shapes objects) one.shape
+
 -- the same, but for one id
 abbrev pub with_kept : (ℕ → Option Kept) → ℕ → Option Kept → ℕ → Option Kept
 with_kept kept id one other = if other == id then one else kept other
+
+-- the same, but for a rule of the group, which takes another priority
+abbrev pub moved : FlowObjects → ℕ → ℕ → RuleEntry → (ℕ → Option Kept) → ℕ → Option Kept
+moved objects group priority entry kept id =
+    if entry.1.group == group then with_kept kept entry.0 (kept_by objects priority entry) id else kept id
+
+-- what is kept under an id once the rules of the group among the first so many have taken another priority
+abbrev pub moved_so_far : FlowObjects → ℕ → ℕ → ℕ → ℕ → Option Kept
+moved_so_far objects group priority count id =
+    if list_any (λ entry. entry.0 == id) (take count objects.rules)
+    then kept_under (with_change_made objects (PutGroup group priority)) id else kept_under objects id
 
 -- the id of a row's rule
 abbrev pub id_of : Row → ℕ

@@ -15,6 +15,7 @@
 #![tactic(auto)]
 
 mod found;
+mod index;
 mod keys;
 pub mod laws;
 mod rows;

@@ -66,7 +66,7 @@ fn place_of(store: &Store, id: u32, rule: &RuleObj) -> Place
 }
 
 /// What a rule of this action and virtqueue index does: an even index names the receive queue of half its number.
-fn action_with(action: RuleAction, vq: u16) -> Action
+pub(crate) fn action_with(action: RuleAction, vq: u16) -> Action
     ensures { result ≡ action_with action vq }
 {
     match action {

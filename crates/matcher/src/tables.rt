@@ -7,6 +7,7 @@ ghost use Rattle.matcher.specs.Tables.{no_changes, applied};
 ghost use Rattle.matcher.specs.Findings.{found_in, IsFirstUnder};
 
 use crate::found::Found;
+use crate::index::RowIndex;
 use crate::scan::first_candidate;
 use ff_headers::{Action, Change, Headers, Limits, Steps};
 use ff_store::Store;
@@ -18,15 +19,20 @@ use std::sync::ledger::Ledger;
 #[derive(Drop)]
 pub struct Tables {
     store: Store,
+    index: RowIndex,
     count: u64,
 }
 
 impl Model for Tables {
     ghost use Rattle.matcher.specs.Tables.{TableState, tables_with};
+    ghost use Rattle.matcher.specs.Rows.{kept_under};
+    ghost use Rattle.matcher.specs.Indexes.{IsIndex};
 
     ghost Value = { TableState };
 
     ghost view = { λ t. tables_with t.store.limits t.store.objects t.count };
+
+    ghost invariant = { λ t. IsIndex t.store.limits (kept_under t.store.objects) t.index };
 }
 
 impl Tables {
@@ -36,6 +42,7 @@ impl Tables {
     {
         Ok(Tables {
             store: Store::new(alloc, limits)?,
+            index: RowIndex::new(alloc, limits)?,
             count: 0,
         })
     }
@@ -60,6 +67,7 @@ impl Tables {
         ensures { self.new ≡ applied self.old change }
     {
         self.count = change.count_after(self.count);
+        self.index.apply(&self.store, &change);
         self.store.apply(change);
     }
 
