@@ -6,3 +6,7 @@ pub mod Pigeonhole
 pub mod ShapeLemmas
 pub mod RoomLemmas
 pub mod IndexLemmas
+pub mod SearchLemmas
+pub mod MatchKeys
+pub mod FirstLemmas
+pub mod CostLemmas

@@ -25,12 +25,12 @@ element (x ∷ xs) zero lt = (x, refl)
 element (x ∷ xs) (suc i) lt = element xs i (omega arith)
 
 -- one more of a list in which nothing comes twice
-differ_more : {X : Type 0} (x : X) (xs : List X) → ((y : X) → Contains xs y → x ≢ y) → Differ xs → Differ (x ∷ xs)
+pub differ_more : {X : Type 0} (x : X) (xs : List X) → ((y : X) → Contains xs y → x ≢ y) → Differ xs → Differ (x ∷ xs)
 differ_more x xs apart differ i zero d lt within = absurd (omega arith)
 differ_more x xs apart differ zero (suc j) d lt within = apart (get_or xs j d) (j, omega arith, get_or_default xs j (get_or xs j d) d (omega arith))
 differ_more x xs apart differ (suc i) (suc j) d lt within = differ i j d (omega arith) (omega arith)
 
-each_more : {X : Type 0} (x : X) (xs ys : List X) → Contains ys x → ((y : X) → Contains xs y → Contains ys y) → (y : X) → Contains (x ∷ xs) y → Contains ys y
+pub each_more : {X : Type 0} (x : X) (xs ys : List X) → Contains ys x → ((y : X) → Contains xs y → Contains ys y) → (y : X) → Contains (x ∷ xs) y → Contains ys y
 each_more {X} x xs ys here rest y has = by has.0 has.1 has.2 where
   by : (k : ℕ) → k < suc (length xs) → get_or (x ∷ xs) k y ≡ y → Contains ys y
   by zero lt at = let same : x ≡ y = at in let P : X → Type 0 = λ z. Contains ys z in subst P same here

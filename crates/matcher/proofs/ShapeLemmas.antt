@@ -51,7 +51,7 @@ same_length a b same = sym (length-shape a) ∙ ap (λ (shape : Shape). length s
 
 -- ---- a number that is given anew
 
-unused : (rows : List Row) (row : Row) (number : ℕ) → list_any (λ (r : Row). eqb r.shape number) rows ≡ false → Contains rows row → row.shape ≢ number
+pub unused : (rows : List Row) (row : Row) (number : ℕ) → list_any (λ (r : Row). eqb r.shape number) rows ≡ false → Contains rows row → row.shape ≢ number
 unused rows row number none has same =
     let at = list_any_at (λ (r : Row). eqb r.shape number) rows has.0 row has.1 (ap (λ (r : Row). eqb r.shape number) has.2 ∙ (let t : eqb row.shape number ≡ true = grind (arith, nat_tests) in t)) in
     absurd cc

@@ -4,3 +4,5 @@ pub mod Candidates
 pub mod Keys
 pub mod Rows
 pub mod Indexes
+pub mod Searches
+pub mod Comparisons

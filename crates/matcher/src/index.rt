@@ -6,16 +6,19 @@ ghost use Rattle.ff_headers.specs.Objects.{IsWellFormed, IsBacked, no_objects};
 ghost use Rattle.ff_headers.specs.Changes.{has_room, is_sound, step, with_change_made};
 ghost use Rattle.ff_headers.specs.declared.change.Change.TheVariants as changes;
 ghost use Rattle.ff_headers.specs.Places.{RuleEntry};
-ghost use Rattle.matcher.specs.Rows.{Kept, with_kept, candidate_with, kept_with, kept_by, kept_under, moved, AreHeld, AreRows, IsNew, AreUsed};
+ghost use Rattle.matcher.specs.Rows.{Kept, with_kept, candidate_with, kept_with, kept_by, kept_under, moved, AreHeld, AreRows, AreRising, AreApart, IsNew, AreUsed};
+ghost use Rattle.matcher.specs.Searches.{FitsRow, FitsBelow, IsFirstAmong, IsShapeCost, IsTotalCost};
 ghost use Rattle.matcher.specs.Indexes.{IsIndex};
 
-use crate::keys::masked_key;
+use crate::keys::{frame_key, masked_key};
 use crate::rows::{Row, drop_row, put_row};
-use crate::scan::{Candidate, action_with};
+use crate::scan::{Candidate, action_with, earlier};
+use crate::search::first_with;
 use crate::shapes::number_for;
-use ff_headers::{Change, Limits, RuleObj, Selectors};
+use ff_headers::{Change, Headers, Limits, RuleObj, Selectors, Steps};
 use ff_store::Store;
 use std::alloc::{AllocError, Global};
+use std::sync::ledger::Ledger;
 
 /// Rows by shape, key and place, and the shapes by number.
 #[derive(Drop)]
@@ -33,6 +36,41 @@ impl RowIndex {
             shapes: Vec::with_capacity(alloc, limits.classifiers as usize)?,
             rows: Vec::with_capacity(alloc, limits.rules as usize)?,
         })
+    }
+
+    /// The first of the rules' rows that fit the headers, shape by shape.
+    pub(crate) fn first<L: Ledger>(&self, headers: &Headers, steps: &mut Steps<L>) -> Option<Candidate>
+        requires rising { AreRising self.now.rows.items }
+        requires apart { AreApart self.now.shapes.items }
+        ensures first { IsFirstAmong self.now.rows.items
+            (FitsBelow (length self.now.shapes.items) self.now.shapes.items headers.now) result }
+        ensures cost { IsTotalCost self.now.shapes.items self.now.rows.items headers.now (length self.now.shapes.items)
+            steps.old steps.new }
+    {
+        let mut first = None;
+        for number in 0..self.shapes.len() {
+            first = earlier(first, self.first_in(number, headers, steps));
+        }
+        first
+    }
+
+    /// The first of the rows of one shape that fit the headers.
+    fn first_in<L: Ledger>(
+        &self,
+        number: usize,
+        headers: &Headers,
+        steps: &mut Steps<L>,
+    ) -> Option<Candidate>
+        requires inside { number < length self.now.shapes.items }
+        requires rising { AreRising self.now.rows.items }
+        ensures first { IsFirstAmong self.now.rows.items
+            (λ row. (row.shape ≡ number) × FitsRow self.now.shapes.items headers.now row) result }
+        ensures cost { IsShapeCost self.now.shapes.items self.now.rows.items headers.now number steps.old steps.new }
+    {
+        match frame_key(&self.shapes[number], headers) {
+            Some(key) => first_with(&self.rows, number, &key, steps),
+            None => None,
+        }
     }
 
     /// Makes the rows those of what a change leaves of a store's objects.

@@ -1,11 +1,14 @@
 //! Keys under masks: the bits of a rule's key, or of a frame's headers, that selectors compare.
 
-ghost use Rattle.std.specs.Prelude.{◌≡◌, ◌+◌, ◌≤◌, ◌++◌, length};
+ghost use Rattle.std.specs.Prelude.{◌≡◌, ◌+◌, ◌≤◌, ◌++◌, IfSome, length};
 ghost use Rattle.std.specs.Option.{option_map};
 ghost use Rattle.ff_headers.specs.Matching.{masked, key_size};
+ghost use Rattle.ff_headers.specs.Kinds.{kind_size};
+ghost use Rattle.ff_headers.specs.Frames.{header_at};
+ghost use Rattle.ff_headers.specs.declared.kind.Kind.{Kind};
 ghost use Rattle.matcher.specs.Keys.{masked_key, frame_key};
 
-use ff_headers::{Headers, Key, Selectors};
+use ff_headers::{Headers, Key, Kind, Selectors};
 
 /// The bits of a rule's key that its classifier's selectors compare.
 pub(crate) fn masked_key(selectors: &Selectors, key: &Key) -> Key
@@ -56,4 +59,15 @@ fn mask_bytes(bytes: &mut [u8], mask: &[u8])
     for j in 0..bytes.len() {
         bytes[j] &= mask[j];
     }
+}
+
+/// Each header that is held has its kind's size. It does nothing: its contract says so to contracts.
+pub(crate) fn have_sizes(headers: &Headers)
+    ensures { (kind : Kind) → IfSome (header_at headers.now kind) (λ value. length value ≡ kind_size kind) }
+{
+    let _eth = headers.get(Kind::Eth);
+    let _ipv4 = headers.get(Kind::Ipv4);
+    let _ipv6 = headers.get(Kind::Ipv6);
+    let _tcp = headers.get(Kind::Tcp);
+    let _udp = headers.get(Kind::Udp);
 }

@@ -20,6 +20,7 @@ mod keys;
 pub mod laws;
 mod rows;
 mod scan;
+mod search;
 mod shapes;
 mod tables;
 

@@ -76,7 +76,7 @@ pub(crate) fn action_with(action: RuleAction, vq: u16) -> Action
 }
 
 /// The first of two rules that match.
-fn earlier(first: Option<Candidate>, next: Option<Candidate>) -> Option<Candidate>
+pub(crate) fn earlier(first: Option<Candidate>, next: Option<Candidate>) -> Option<Candidate>
     ensures { result ≡ earlier first next }
 {
     match (first, next) {

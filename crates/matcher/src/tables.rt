@@ -5,9 +5,11 @@ ghost use Rattle.ff_headers.specs.Objects.{IsWellFormed};
 ghost use Rattle.ff_headers.specs.Places.{RuleEntry, IsMatching, action_of};
 ghost use Rattle.matcher.specs.Tables.{no_changes, applied};
 ghost use Rattle.matcher.specs.Findings.{found_in, IsFirstUnder};
+ghost use Rattle.matcher.specs.Comparisons.{IsBounded};
 
 use crate::found::Found;
 use crate::index::RowIndex;
+use crate::keys::have_sizes;
 use crate::scan::first_candidate;
 use ff_headers::{Action, Change, Headers, Limits, Steps};
 use ff_store::Store;
@@ -71,13 +73,34 @@ impl Tables {
         self.store.apply(change);
     }
 
-    /// The first rule that matches a frame with these headers, and what happens to the frame. It counts no step.
+    /// The first rule that matches a frame with these headers, and what happens to the frame. A step is a comparison of
+    /// two keys: at least one for each shape of a rule's classifier whose headers the frame has, and at most as many for
+    /// each shape as it takes to halve the rules' count, and two more.
     pub fn find<L: Ledger>(&self, headers: &Headers, steps: &mut Steps<L>) -> Found
         ensures value { result ≡ found_in self.now.objects headers.now }
         ensures action { result.action ≡ action_of self.now.objects headers.now }
         ensures first { IfSome result.rule (IsFirstUnder self.now.objects headers.now) }
         ensures none { IsNone result.rule ↔ ((entry : RuleEntry) → ¬ IsMatching self.now.objects headers.now entry) }
-        ensures cost { steps.new ≡ steps.old }
+        ensures cost { IsBounded self.now.objects headers.now steps.old steps.new }
+    {
+        let _well_formed = self.store.limits();
+        have_sizes(headers);
+        match self.index.first(headers, steps) {
+            Some(first) => Found {
+                action: first.action,
+                rule: Some(first.place.2),
+            },
+            None => Found {
+                action: Action::Default,
+                rule: None,
+            },
+        }
+    }
+
+    /// What [`Tables::find`] gives, by a walk over all rules: the plain program of its definition, which tests compare
+    /// with it.
+    pub fn find_by_walk(&self, headers: &Headers) -> Found
+        ensures { result ≡ found_in self.now.objects headers.now }
     {
         let _well_formed = self.store.limits();
         match first_candidate(&self.store, headers) {
