@@ -12,15 +12,14 @@ use Rattle.std.proofs.lemmas.List.Folds.{Any-from_list_any}
 use Rattle.std.proofs.lemmas.Map.Entries.{length-keys_of}
 use Rattle.std.proofs.Math.Nat.{mul-le-mul_right}
 use Rattle.ff_headers.specs.SelectorParts.{SelectorParts}
-use Rattle.ff_headers.specs.RuleParts.{RuleParts}
 use Rattle.ff_headers.specs.Frames.{HeaderBytes, header_at}
 use Rattle.ff_headers.specs.Matching.{masked}
 use Rattle.ff_headers.specs.declared.kind.Kind.{Kind}
-use Rattle.ff_headers.specs.Objects.{FlowObjects, object_under}
+use Rattle.ff_headers.specs.Objects.{FlowObjects}
 use Rattle.matcher.specs.Keys.{Shape, shape_of, part_of, frame_key, joined}
 use Rattle.matcher.specs.Rows.{Kept, kept_under, selectors_at, id_of, AreApart, AreRows}
 use Rattle.matcher.specs.Searches.{HasRow, AreOfNumbers, AreAllCarried, Differ, IsShapeCost, IsTotalCost}
-use Rattle.matcher.specs.Comparisons.{IsUsed, HasHeaders, AreSearched, IsBounded}
+use Rattle.matcher.specs.Comparisons.{IsUsed, HasHeaders, IsBounded}
 use Rattle.matcher.specs.declared.rows.Row.{Row}
 use Rattle.matcher.proofs.RoomLemmas.{differ_more, rows_within, key_held}
 use Rattle.matcher.proofs.Pigeonhole.{no_longer}

@@ -1,11 +1,10 @@
 -- The first among rows of several kinds, and what it says of the rules.
-use Rattle.std.proofs.Common.{◌≡◌, ◌≢◌, ℕ, ◌+◌, ◌<◌, ◌≤◌, Bool, true, false, cond, List, [], ◌∷◌, length, get_or, Option, Some, None, Ordering, refl, sym, ap, ◌∙◌, ◌⊎◌, inl, inr, subst, arith, Contains}
-use Rattle.std.specs.Prelude.{IsSome, is_some, IfSome, IsTrue, ◌↔◌, unwrap_or}
+use Rattle.std.proofs.Common.{◌≡◌, ℕ, ◌+◌, Bool, true, false, cond, List, length, Option, Some, None, Ordering, refl, sym, ap, ◌∙◌, ◌⊎◌, inl, inr, arith, Contains}
+use Rattle.std.specs.Prelude.{IsSome, IfSome, IsTrue, ◌↔◌, unwrap_or}
 use Rattle.std.specs.Option.{option_map, option_map_or}
 use Rattle.std.specs.Ordering.{is_lt, nat_cmp, ordering_then, ordering_reverse}
 use Rattle.std.proofs.lemmas.Bool.Decides.{nat_tests}
 use Rattle.std.specs.declared.cmp.Ordering.TheVariants.{Less, Equal, Greater}
-use Rattle.std.specs.Cmp.{tied_itself}
 use Rattle.ff_headers.specs.SelectorParts.{SelectorParts}
 use Rattle.ff_headers.specs.RuleParts.{RuleParts}
 use Rattle.ff_headers.specs.Frames.{HeaderBytes}
@@ -16,7 +15,7 @@ use Rattle.ff_headers.specs.declared.limits.Limits.{Limits}
 use Rattle.ff_headers.proofs.PlaceLemmas.{place_total, first_rule_is_first, first_rule_is_found}
 use Rattle.matcher.specs.Candidates.{candidate_of, earlier}
 use Rattle.matcher.specs.Keys.{shape_of, masked_key, frame_key}
-use Rattle.matcher.specs.Rows.{Kept, kept_with, kept_by, kept_under, id_of, selectors_at, IsRow, AreRows}
+use Rattle.matcher.specs.Rows.{Kept, kept_with, kept_by, kept_under, id_of, selectors_at, AreRows}
 use Rattle.matcher.specs.Searches.{HasKey, FitsRow, FitsBelow, IsFirstAmong}
 use Rattle.std.proofs.lemmas.Bool.{cases_lt}
 use Rattle.matcher.specs.declared.scan.Candidate.{Candidate}
@@ -35,6 +34,7 @@ not_before_later : (x a b : Place) → is_lt (place_cmp x a) ≡ false → is_lt
 not_before_later x a b stays less = by (is_lt (place_cmp x b)) refl where
   two : (t : Bool) → t ≡ true → t ≡ false → ⊥
   two t h k = cc
+
   by : (t : Bool) → is_lt (place_cmp x b) ≡ t → is_lt (place_cmp x b) ≡ false
   by false e = e
   by true e = absurd (two (is_lt (place_cmp x a)) (ap is_lt (place_total.trans x b a (lt_is _ e) (lt_is _ less))) stays)
@@ -43,9 +43,11 @@ not_before_first : (x a b : Place) → is_lt (place_cmp x b) ≡ false → is_lt
 not_before_first x a b stays last = by (place_cmp b a) refl last where
   two : (t : Bool) → t ≡ true → t ≡ false → ⊥
   two t h k = cc
+
   under : place_cmp a b ≡ Less → (t : Bool) → is_lt (place_cmp x a) ≡ t → is_lt (place_cmp x a) ≡ false
   under less false e = e
   under less true e = absurd (two (is_lt (place_cmp x b)) (ap is_lt (place_total.trans x a b (lt_is _ e) less)) stays)
+
   by : (o : Ordering) → place_cmp b a ≡ o → is_lt o ≡ false → is_lt (place_cmp x a) ≡ false
   by Less e h = absurd cc
   by Equal e h = ap is_lt (sym (right_same x b a e)) ∙ stays where
@@ -62,31 +64,39 @@ module _ (rows : List Row) (P Q R : Row → Type 0) (split : (row : Row) → R r
     | inr q ↦ no_q row has q
   ]
   first_of_both (Some x) None is_p no_q =
-      let w = is_p.0 in
-      ((w.0, w.1, from_p w.0 w.2, w.3), λ row has r. elim (split row r) [
-        | inl p ↦ is_p.1 row has p
-        | inr q ↦ absurd (no_q row has q)
-      ])
+      let w = is_p.0 in (
+        (w.0, w.1, from_p w.0 w.2, w.3),
+        λ row has r. elim (split row r) [
+          | inl p ↦ is_p.1 row has p
+          | inr q ↦ absurd (no_q row has q)
+        ],
+      )
   first_of_both None (Some y) no_p is_q =
-      let w = is_q.0 in
-      ((w.0, w.1, from_q w.0 w.2, w.3), λ row has r. elim (split row r) [
-        | inl p ↦ absurd (no_p row has p)
-        | inr q ↦ is_q.1 row has q
-      ])
+      let w = is_q.0 in (
+        (w.0, w.1, from_q w.0 w.2, w.3),
+        λ row has r. elim (split row r) [
+          | inl p ↦ absurd (no_p row has p)
+          | inr q ↦ is_q.1 row has q
+        ],
+      )
   first_of_both (Some x) (Some y) is_p is_q = by (is_lt (place_cmp y.place x.place)) refl where
     by : (t : Bool) → is_lt (place_cmp y.place x.place) ≡ t → IsFirstAmong rows R (Some (cond t y x))
     by true e =
-        let w = is_q.0 in
-        ((w.0, w.1, from_q w.0 w.2, w.3), λ row has r. elim (split row r) [
-          | inl p ↦ not_before_later row.candidate.place x.place y.place (is_p.1 row has p) e
-          | inr q ↦ is_q.1 row has q
-        ])
+        let w = is_q.0 in (
+          (w.0, w.1, from_q w.0 w.2, w.3),
+          λ row has r. elim (split row r) [
+            | inl p ↦ not_before_later row.candidate.place x.place y.place (is_p.1 row has p) e
+            | inr q ↦ is_q.1 row has q
+          ],
+        )
     by false e =
-        let w = is_p.0 in
-        ((w.0, w.1, from_p w.0 w.2, w.3), λ row has r. elim (split row r) [
-          | inl p ↦ is_p.1 row has p
-          | inr q ↦ not_before_first row.candidate.place x.place y.place (is_q.1 row has q) e
-        ])
+        let w = is_p.0 in (
+          (w.0, w.1, from_p w.0 w.2, w.3),
+          λ row has r. elim (split row r) [
+            | inl p ↦ is_p.1 row has p
+            | inr q ↦ not_before_first row.candidate.place x.place y.place (is_q.1 row has q) e
+          ],
+        )
 
 -- rows of a kind that has the same rows
 pub same_kind : (rows : List Row) (P Q : Row → Type 0) → ((row : Row) → Contains rows row → P row → Q row) → ((row : Row) → Contains rows row → Q row → P row) → (a : Option Candidate) → IsFirstAmong rows P a → IsFirstAmong rows Q a
@@ -207,11 +217,14 @@ module _ (limits : Limits) (objects : FlowObjects) (well : IsWellFormed limits o
       let k = kept_rule objects (id_of row) s.0 s.1 in
       let shape : shape_of (selectors_at shapes row.shape) ≡ shape_of k.selectors = s.2.shape ∙ ap (λ (one : Kept). one.shape) k.is in
       let key : row.key.items ≡ masked_key k.selectors k.rule.key = s.2.key ∙ ap (λ (one : Kept). one.key) k.is in
-      let same : frame_key k.selectors headers ≡ Some (masked_key k.selectors k.rule.key) = sym (frame_key_by_shape headers (selectors_at shapes row.shape) k.selectors shape) ∙ fits ∙ ap Some key in
-      (k.rule, record {
-        is_held = k.held;
-        fits_headers = matches_by objects headers k.rule k.selectors k.classified ∙ match_from_key headers k.selectors k.rule.key sizes (sized (id_of row) k.rule k.selectors k.held k.classified) same;
-      }, s.2.candidate ∙ ap (λ (one : Kept). one.candidate) k.is)
+      let same : frame_key k.selectors headers ≡ Some (masked_key k.selectors k.rule.key) = sym (frame_key_by_shape headers (selectors_at shapes row.shape) k.selectors shape) ∙ fits ∙ ap Some key in (
+        k.rule,
+        record {
+          is_held = k.held;
+          fits_headers = matches_by objects headers k.rule k.selectors k.classified ∙ match_from_key headers k.selectors k.rule.key sizes (sized (id_of row) k.rule k.selectors k.held k.classified) same;
+        },
+        s.2.candidate ∙ ap (λ (one : Kept). one.candidate) k.is,
+      )
 
   -- the row of a rule that matches fits
   row_of_rule : (entry : RuleEntry) → IsMatching objects headers entry → (row : Row) × Contains rows row × FitsBelow (length shapes) shapes headers row × (row.candidate ≡ candidate_of objects entry)

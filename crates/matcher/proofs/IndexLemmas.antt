@@ -1,5 +1,5 @@
 -- What is kept under each id, before and after a change.
-use Rattle.std.proofs.Common.{◌≡◌, ◌≢◌, ℕ, suc, ◌+◌, ◌<◌, ◌≤◌, Bool, true, false, not, ◌||◌, take, cond, eqb, ltb, List, [], ◌∷◌, length, map, get_or, Option, Some, None, refl, sym, ap, ◌∙◌, subst, arith, Contains}
+use Rattle.std.proofs.Common.{◌≡◌, ◌≢◌, ℕ, ◌+◌, ◌<◌, ◌≤◌, Bool, true, false, not, ◌||◌, take, cond, eqb, ltb, List, [], ◌∷◌, length, get_or, Option, Some, None, refl, sym, ap, ◌∙◌, subst, arith, Contains}
 use Rattle.std.specs.Prelude.{IsSome, is_some, unwrap_or, slice_get}
 use Rattle.std.specs.List.{list_any}
 use Rattle.std.proofs.lemmas.List.Folds.{list_any-append}
@@ -20,7 +20,7 @@ use Rattle.ff_headers.specs.Places.{RuleEntry}
 use Rattle.ff_headers.specs.declared.limits.Limits.{Limits}
 use Rattle.ff_headers.proofs.EntryLemmas.{entry_from_held, held_from_entry, object_under-put, object_under-without, fails_at_held}
 use Rattle.matcher.specs.Keys.{Shape, shape_of}
-use Rattle.matcher.specs.Rows.{Kept, with_kept, id_of, IsNew, AreUsed, AreHeld, held_shapes, kept_with, kept_by, kept_under, moved, moved_so_far, AreApart, AreRising, AreRows}
+use Rattle.matcher.specs.Rows.{Kept, with_kept, IsNew, AreUsed, AreHeld, held_shapes, kept_with, kept_by, kept_under, moved, moved_so_far, AreRows}
 use Rattle.matcher.specs.Indexes.{IsIndex}
 use Rattle.matcher.specs.declared.rows.Row.{Row}
 use Rattle.matcher.specs.declared.index.RowIndex.{RowIndex}
@@ -245,15 +245,20 @@ module _ (objects : FlowObjects) (group priority : ℕ) where
       by (list_any p (take at objects.rules)) (eqb entry.0 q) (eqb q entry.0) (eqb entry.1.group group) refl refl refl ∙ sym (ap (λ b. cond b (after_all q) (kept_under objects q)) more) where
         p : RuleEntry → Bool
         p e = eqb e.0 q
+
         within : at < length objects.rules
         within = slice_get_within objects.rules at entry is
+
         more : list_any (λ (e : RuleEntry). eqb e.0 q) (take (at + 1) objects.rules) ≡ (list_any (λ (e : RuleEntry). eqb e.0 q) (take at objects.rules) || (eqb entry.0 q || false))
         more = ap (list_any (λ (e : RuleEntry). eqb e.0 q)) (take_more objects.rules at entry within) ∙ list_any-append (λ (e : RuleEntry). eqb e.0 q) (take at objects.rules) (get_or objects.rules at entry ∷ []) ∙ ap (λ (e : RuleEntry). list_any (λ (e : RuleEntry). eqb e.0 q) (take at objects.rules) || (eqb e.0 q || false)) (get_or_from_slice_get objects.rules at entry entry is)
+
         moved_here : q ≡ entry.0 → eqb entry.1.group group ≡ true → kept_by objects priority entry ≡ after_all q
         moved_here same named = moved_in entry.0 entry.1 (held_at limits objects at entry well is) named ∙ ap after_all (sym same)
+
         all_true : (a : Bool) → cond (a || true) (after_all q) (kept_under objects q) ≡ after_all q
         all_true true = refl
         all_true false = refl
+
         by : (a b c t : Bool) → eqb entry.0 q ≡ b → eqb q entry.0 ≡ c → eqb entry.1.group group ≡ t → cond t (cond c (kept_by objects priority entry) (cond a (after_all q) (kept_under objects q))) (cond a (after_all q) (kept_under objects q)) ≡ cond (a || (b || false)) (after_all q) (kept_under objects q)
         by true false false true e f g = refl
         by true false false false e f g = refl

@@ -1,5 +1,5 @@
 -- A list in which nothing comes twice is no longer than one that has all of it.
-use Rattle.std.proofs.Common.{◌≡◌, ◌≢◌, ℕ, suc, zero, ◌+◌, ◌-◌, ◌<◌, ◌≤◌, List, [], ◌∷◌, length, get_or, refl, sym, ap, ◌∙◌, inl, inr, arith, Contains}
+use Rattle.std.proofs.Common.{◌≡◌, ◌≢◌, ℕ, suc, ◌+◌, ◌-◌, ◌<◌, ◌≤◌, List, [], ◌∷◌, length, get_or, refl, sym, ap, ◌∙◌, inl, inr, arith, Contains}
 use Rattle.std.specs.List.{remove}
 use Rattle.std.proofs.lemmas.Bool.{cases_lt}
 use Rattle.std.proofs.lemmas.List.{get_or_default}
@@ -17,8 +17,8 @@ module _ {X : Type 0} where
       elim (cases_lt j p) [
         | inl lt ↦ (j, omega arith, get_or-remove_below xs p x j lt inside ∙ at)
         | inr ge ↦
-          let back : j ≡ (j - 1) + 1 = omega arith in
-          (j - 1, omega arith, get_or-remove_above xs p x (j - 1) (omega arith) inside ∙ ap (λ (n : ℕ). get_or xs n x) (sym back) ∙ at)
+            let back : j ≡ (j - 1) + 1 = omega arith in
+            (j - 1, omega arith, get_or-remove_above xs p x (j - 1) (omega arith) inside ∙ ap (λ (n : ℕ). get_or xs n x) (sym back) ∙ at)
       ]
 
   pub no_longer : (xs ys : List X) → Differ xs → ((x : X) → Contains xs x → Contains ys x) → length xs ≤ length ys

@@ -8,12 +8,11 @@ use Rattle.std.proofs.lemmas.List.{get_or-map, get_or_default, length-map}
 use Rattle.std.proofs.lemmas.List.Folds.{Any-from_list_any}
 use Rattle.std.proofs.lemmas.Map.Entries.{length-keys_of}
 use Rattle.ff_headers.specs.SelectorParts.{SelectorParts}
-use Rattle.ff_headers.specs.RuleParts.{RuleParts}
-use Rattle.ff_headers.specs.Objects.{FlowObjects, object_under, IsById}
+use Rattle.ff_headers.specs.Objects.{object_under, IsById}
 use Rattle.ff_headers.specs.Changes.{put, has_room}
 use Rattle.ff_headers.proofs.EntryLemmas.{entry_from_held, object_under-put, length-put_le, length-put_held}
 use Rattle.matcher.specs.Keys.{Shape, shape_of}
-use Rattle.matcher.specs.Rows.{Kept, with_kept, id_of, selectors_at, IsSound, IsNew, AreUsed, AreHeld, held_shapes, AreRows}
+use Rattle.matcher.specs.Rows.{Kept, id_of, selectors_at, IsNew, AreUsed, AreRows}
 use Rattle.matcher.specs.declared.rows.Row.{Row}
 use Rattle.matcher.proofs.RowLemmas.{ids_apart}
 use Rattle.matcher.proofs.Pigeonhole.{Differ, no_longer}

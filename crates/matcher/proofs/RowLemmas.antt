@@ -1,5 +1,5 @@
 -- Rows stay all that is kept when one is put or dropped.
-use Rattle.std.proofs.Common.{◌≡◌, ◌≢◌, ℕ, suc, ◌+◌, ◌-◌, ◌<◌, ◌≤◌, Bool, true, false, cond, eqb, List, [], ◌∷◌, ◌++◌, length, get_or, Option, Some, None, Ordering, refl, sym, ap, ◌∙◌, ◌⊎◌, inl, inr, subst, arith, Contains}
+use Rattle.std.proofs.Common.{◌≡◌, ◌≢◌, ℕ, ◌+◌, ◌-◌, ◌<◌, ◌≤◌, Bool, true, false, cond, eqb, List, length, get_or, Option, Some, None, Ordering, refl, sym, ap, ◌∙◌, ◌⊎◌, inl, inr, arith, Contains}
 use Rattle.std.proofs.lemmas.Bool.{cases_lt}
 use Rattle.std.specs.List.{insert, remove}
 use Rattle.std.specs.List.Sorted.{IsPartitionedBy, IsPartitionPoint}
@@ -15,9 +15,8 @@ use Rattle.ff_headers.specs.SelectorParts.{SelectorParts}
 use Rattle.ff_headers.specs.Places.{place_cmp}
 use Rattle.ff_headers.proofs.OrderLemmas.{then_total}
 use Rattle.ff_headers.proofs.PlaceLemmas.{place_total}
-use Rattle.matcher.specs.Keys.{Shape, shape_of}
-use Rattle.matcher.specs.Rows.{Kept, with_kept, id_of, row_cmp, cmp_in_shape, stands_before, selectors_at, IsRow, IsSound, AreRising, AreApart, AreRows}
-use Rattle.matcher.specs.declared.scan.Candidate.{Candidate}
+use Rattle.matcher.specs.Keys.{shape_of}
+use Rattle.matcher.specs.Rows.{Kept, with_kept, id_of, row_cmp, cmp_in_shape, stands_before, selectors_at, IsRow, AreRising, AreRows}
 use Rattle.matcher.specs.declared.rows.Row.{Row}
 
 pub row_total : IsTotalOrder row_cmp
@@ -121,8 +120,8 @@ module _ (kept : ℕ → Option Kept) (shapes : List (List SelectorParts)) (rows
         elim (cases_lt j p) [
           | inl lt ↦ (j, omega arith, get_or-remove_below rows p row j lt inside ∙ at)
           | inr ge ↦
-            let back : j ≡ (j - 1) + 1 = omega arith in
-            (j - 1, omega arith, get_or-remove_above rows p row (j - 1) (omega arith) inside ∙ ap (λ (n : ℕ). get_or rows n row) (sym back) ∙ at)
+              let back : j ≡ (j - 1) + 1 = omega arith in
+              (j - 1, omega arith, get_or-remove_above rows p row (j - 1) (omega arith) inside ∙ ap (λ (n : ℕ). get_or rows n row) (sym back) ∙ at)
         ]
 
     rising_removed : AreRising (remove rows p)
@@ -134,8 +133,8 @@ module _ (kept : ℕ → Option Kept) (shapes : List (List SelectorParts)) (rows
             | inr b ↦ rw (get_or-remove_below rows p e i a inside, get_or-remove_above rows p e j b inside) (was.rising i (j + 1) e (omega arith) (omega arith))
           ]
           | inr a ↦
-            let b : p ≤ j = omega arith in
-            rw (get_or-remove_above rows p e i a inside, get_or-remove_above rows p e j b inside) (was.rising (i + 1) (j + 1) e (omega arith) (omega arith))
+              let b : p ≤ j = omega arith in
+              rw (get_or-remove_above rows p e i a inside, get_or-remove_above rows p e j b inside) (was.rising (i + 1) (j + 1) e (omega arith) (omega arith))
         ]
 
     kept_elsewhere : (id q : ℕ) (one : Option Kept) → q ≢ id → with_kept kept id one q ≡ kept q
@@ -182,24 +181,24 @@ module _ (kept : ℕ → Option Kept) (shapes : List (List SelectorParts)) (rows
             | inl b ↦ rw (get_or-insert_below rows p row e i a inside, get_or-insert_below rows p row e j b inside) (was.rising i j e lt (omega arith))
             | inr b ↦ elim (cases_lt p j) [
               | inl c ↦
-                let back : j ≡ (j - 1) + 1 = omega arith in
-                rw (get_or-insert_below rows p row e i a inside) (rw (ap (λ (n : ℕ). get_or (insert rows p row) n e) back ∙ get_or-insert_above rows p row e (j - 1) (omega arith) inside) (was.rising i (j - 1) e (omega arith) (omega arith)))
+                  let back : j ≡ (j - 1) + 1 = omega arith in
+                  rw (get_or-insert_below rows p row e i a inside) (rw (ap (λ (n : ℕ). get_or (insert rows p row) n e) back ∙ get_or-insert_above rows p row e (j - 1) (omega arith) inside) (was.rising i (j - 1) e (omega arith) (omega arith)))
               | inr c ↦
-                let same : j ≡ p = omega arith in
-                rw (get_or-insert_below rows p row e i a inside, ap (λ (n : ℕ). get_or (insert rows p row) n e) same ∙ get_or-insert_at rows p row e inside) (before i e a)
+                  let same : j ≡ p = omega arith in
+                  rw (get_or-insert_below rows p row e i a inside, ap (λ (n : ℕ). get_or (insert rows p row) n e) same ∙ get_or-insert_at rows p row e inside) (before i e a)
             ]
           ]
           | inr a ↦
-            let back : j ≡ (j - 1) + 1 = omega arith in
-            let at_j = ap (λ (n : ℕ). get_or (insert rows p row) n e) back ∙ get_or-insert_above rows p row e (j - 1) (omega arith) inside in
-            elim (cases_lt p i) [
-              | inl c ↦
-                let back' : i ≡ (i - 1) + 1 = omega arith in
-                rw (at_j, ap (λ (n : ℕ). get_or (insert rows p row) n e) back' ∙ get_or-insert_above rows p row e (i - 1) (omega arith) inside) (was.rising (i - 1) (j - 1) e (omega arith) (omega arith))
-              | inr c ↦
-                let same : i ≡ p = omega arith in
-                rw (at_j, ap (λ (n : ℕ). get_or (insert rows p row) n e) same ∙ get_or-insert_at rows p row e inside) (behind (j - 1) e (omega arith) (omega arith))
-            ]
+              let back : j ≡ (j - 1) + 1 = omega arith in
+              let at_j = ap (λ (n : ℕ). get_or (insert rows p row) n e) back ∙ get_or-insert_above rows p row e (j - 1) (omega arith) inside in
+              elim (cases_lt p i) [
+                | inl c ↦
+                    let back' : i ≡ (i - 1) + 1 = omega arith in
+                    rw (at_j, ap (λ (n : ℕ). get_or (insert rows p row) n e) back' ∙ get_or-insert_above rows p row e (i - 1) (omega arith) inside) (was.rising (i - 1) (j - 1) e (omega arith) (omega arith))
+                | inr c ↦
+                    let same : i ≡ p = omega arith in
+                    rw (at_j, ap (λ (n : ℕ). get_or (insert rows p row) n e) same ∙ get_or-insert_at rows p row e inside) (behind (j - 1) e (omega arith) (omega arith))
+              ]
         ]
 
     -- a row of the new list is the one that is put, or was there
@@ -210,11 +209,11 @@ module _ (kept : ℕ → Option Kept) (shapes : List (List SelectorParts)) (rows
           | inl a ↦ inr (has.0, omega arith, sym (get_or-insert_below rows p row other has.0 a inside) ∙ has.2)
           | inr b ↦ elim (cases_lt p has.0) [
             | inl c ↦
-              let back : has.0 ≡ (has.0 - 1) + 1 = omega arith in
-              inr (has.0 - 1, omega (arith, has.1), sym (get_or-insert_above rows p row other (has.0 - 1) (omega arith) inside) ∙ ap (λ (n : ℕ). get_or (insert rows p row) n other) (sym back) ∙ has.2)
+                let back : has.0 ≡ (has.0 - 1) + 1 = omega arith in
+                inr (has.0 - 1, omega (arith, has.1), sym (get_or-insert_above rows p row other (has.0 - 1) (omega arith) inside) ∙ ap (λ (n : ℕ). get_or (insert rows p row) n other) (sym back) ∙ has.2)
             | inr c ↦
-              let same : has.0 ≡ p = omega arith in
-              inl (sym has.2 ∙ ap (λ (n : ℕ). get_or (insert rows p row) n other) same ∙ get_or-insert_at rows p row other inside)
+                let same : has.0 ≡ p = omega arith in
+                inl (sym has.2 ∙ ap (λ (n : ℕ). get_or (insert rows p row) n other) same ∙ get_or-insert_at rows p row other inside)
           ]
         ]
 
@@ -233,9 +232,9 @@ module _ (kept : ℕ → Option Kept) (shapes : List (List SelectorParts)) (rows
       sound = λ other has. elim (from_inserted other has) [
         | inl same ↦ let t : eqb (id_of other) id ≡ true = grind (arith, nat_tests, ap id_of same) in (one, rw t refl, rw same is_row)
         | inr there ↦
-          let s = was.sound other there in
-          let off : eqb (id_of other) id ≡ false = apart_ids (id_of other) s.0 s.1 in
-          (s.0, rw off s.1, s.2)
+            let s = was.sound other there in
+            let off : eqb (id_of other) id ≡ false = apart_ids (id_of other) s.0 s.1 in
+            (s.0, rw off s.1, s.2)
       ];
       complete = λ q two is. by_test q two (eqb q id) refl is;
     } where
@@ -244,6 +243,7 @@ module _ (kept : ℕ → Option Kept) (shapes : List (List SelectorParts)) (rows
         by : (b : Bool) → eqb q id ≡ b → eqb q id ≡ false
         by false e = e
         by true e = let same : q ≡ id = grind (arith, nat_tests) in absurd (let h : None ≡ Some two = sym free ∙ ap kept (sym same) ∙ is in cc)
+
       by_test : (q : ℕ) (two : Kept) (b : Bool) → eqb q id ≡ b → cond b (Some one) (kept q) ≡ Some two → (other : Row) × Contains (insert rows p row) other × (id_of other ≡ q)
       by_test q two true e is =
           let same : q ≡ id = grind (arith, nat_tests) in
@@ -275,4 +275,3 @@ module _ (kept : ℕ → Option Kept) (shapes : List (List SelectorParts)) (rows
     unfolding stands_before
     rows_put_at p one inside parts is_row =
         rows_put p row inside (id_of row) one free refl is_row (λ i d lt. less_from_test _ (parts.0 i d (omega arith) lt)) (λ j d le within. behind_it (get_or rows j d) (has_at j d within) (parts.1 j d le within))
-

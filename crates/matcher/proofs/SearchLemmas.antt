@@ -1,11 +1,11 @@
 -- A search by halving ends at the first row with a number and a key.
-use Rattle.std.proofs.Common.{◌≡◌, ◌≢◌, ℕ, suc, ◌+◌, ◌-◌, ◌*◌, ◌/◌, ◌^◌, ◌<◌, ◌≤◌, Bool, true, false, cond, eqb, ltb, List, [], ◌∷◌, length, get_or, Option, Some, None, Ordering, refl, sym, ap, ◌∙◌, ◌⊎◌, inl, inr, subst, arith, Contains}
+use Rattle.std.proofs.Common.{◌≡◌, ℕ, ◌+◌, ◌-◌, ◌*◌, ◌/◌, ◌^◌, ◌<◌, ◌≤◌, Bool, true, false, cond, eqb, ltb, List, length, get_or, Ordering, refl, sym, ap, ◌∙◌, ◌⊎◌, inl, inr, arith, Contains}
 use Rattle.std.specs.Ordering.{nat_cmp, ordering_then, ordering_reverse, is_lt, is_eq}
 use Rattle.ff_headers.proofs.PlaceLemmas.{place_total}
 use Rattle.std.specs.declared.cmp.Ordering.TheVariants.{Less, Equal, Greater}
 use Rattle.std.specs.Cmp.{tied_itself}
 use Rattle.std.specs.Cmp.Lexicographic.{slice_cmp, bytes_decides}
-use Rattle.std.proofs.Math.Nat.{mul-le-mul_left, pow-le-pow_right, one-le-pow}
+use Rattle.std.proofs.Math.Nat.{mul-le-mul_left, pow-le-pow_right}
 use Rattle.std.proofs.lemmas.Cmp.{nat_list_cmp_total}
 use Rattle.std.proofs.lemmas.Map.Text.{is_eq-slice_cmp}
 use Rattle.std.proofs.lemmas.Bool.{cases_lt}
@@ -16,7 +16,6 @@ use Rattle.ff_headers.specs.Places.{place_cmp}
 use Rattle.matcher.specs.Rows.{row_cmp, cmp_in_shape, AreRising}
 use Rattle.matcher.specs.Searches.{precedes, HasKey, IsCost}
 use Rattle.matcher.specs.declared.rows.Row.{Row}
-use Rattle.matcher.proofs.RoomLemmas.{element}
 
 -- ---- the count of halvings
 
@@ -45,9 +44,9 @@ pub few_enough : (s n d : ℕ) → n < 2 ^ d → 2 ^ s ≤ 2 * n + 1 → s ≤ d
 few_enough s n d lt few = elim (cases_lt d s) [
   | inr le ↦ le
   | inl more ↦
-    let grows : 2 ^ (d + 1) ≤ 2 ^ s = pow-le-pow_right (omega arith) (omega arith) in
-    let t = twice d in
-    absurd (omega arith)
+      let grows : 2 ^ (d + 1) ≤ 2 ^ s = pow-le-pow_right (omega arith) (omega arith) in
+      let t = twice d in
+      absurd (omega arith)
 ]
 
 -- ---- what order says
@@ -97,11 +96,11 @@ pub key_before : (number : ℕ) (key : List ℕ) (row other : Row) → HasKey nu
 key_before number key row other (h, k) stays less = elim (less_front (nat_cmp row.shape other.shape) (cmp_in_shape row other) less) [
   | inl a ↦ let lt = below row.shape other.shape a in absurd (both (precedes number key row) (precedes_by_number number key row (omega arith)) stays)
   | inr e ↦
-    let same : row.shape ≡ number = level row.shape other.shape e.0 ∙ h in
-    elim (less_front (slice_cmp nat_cmp row.key.items other.key.items) (place_cmp row.candidate.place other.candidate.place) e.1) [
-      | inl b ↦ absurd (both (precedes number key row) (precedes_by_key number key row same (ap (λ (xs : List ℕ). slice_cmp nat_cmp row.key.items xs) (sym k) ∙ b)) stays)
-      | inr f ↦ (same, same_keys row.key.items other.key.items f.0 ∙ k)
-    ]
+      let same : row.shape ≡ number = level row.shape other.shape e.0 ∙ h in
+      elim (less_front (slice_cmp nat_cmp row.key.items other.key.items) (place_cmp row.candidate.place other.candidate.place) e.1) [
+        | inl b ↦ absurd (both (precedes number key row) (precedes_by_key number key row same (ap (λ (xs : List ℕ). slice_cmp nat_cmp row.key.items xs) (sym k) ∙ b)) stays)
+        | inr f ↦ (same, same_keys row.key.items other.key.items f.0 ∙ k)
+      ]
 ]
 
 -- of two rows with the number and key the earlier has the lesser place
@@ -132,12 +131,12 @@ module _ (rows : List Row) (rises : AreRising rows) (number : ℕ) (key : List �
       let le = stands_behind row has h in
       elim (cases_lt p has.0) [
         | inl lt ↦
-          let at : get_or rows has.0 d ≡ row = get_or_default rows has.0 d row has.1 ∙ has.2 in
-          key_before number key (get_or rows p d) row h (behind p d (omega arith) (omega (arith, has.1))) (ap (λ (r : Row). row_cmp (get_or rows p d) r) (sym at) ∙ rises p has.0 d lt has.1)
+            let at : get_or rows has.0 d ≡ row = get_or_default rows has.0 d row has.1 ∙ has.2 in
+            key_before number key (get_or rows p d) row h (behind p d (omega arith) (omega (arith, has.1))) (ap (λ (r : Row). row_cmp (get_or rows p d) r) (sym at) ∙ rises p has.0 d lt has.1)
         | inr ge ↦
-          let same : p ≡ has.0 = omega arith in
-          let at : get_or rows p d ≡ row = ap (λ (n : ℕ). get_or rows n d) same ∙ get_or_default rows has.0 d row has.1 ∙ has.2 in
-          (ap (λ (r : Row). r.shape) at ∙ h.0, ap (λ (r : Row). r.key.items) at ∙ h.1)
+            let same : p ≡ has.0 = omega arith in
+            let at : get_or rows p d ≡ row = ap (λ (n : ℕ). get_or rows n d) same ∙ get_or_default rows has.0 d row has.1 ∙ has.2 in
+            (ap (λ (r : Row). r.shape) at ∙ h.0, ap (λ (r : Row). r.key.items) at ∙ h.1)
       ]
 
   -- and the least place
@@ -146,17 +145,18 @@ module _ (rows : List Row) (rises : AreRising rows) (number : ℕ) (key : List �
       let le = stands_behind row has h in
       elim (cases_lt p has.0) [
         | inl lt ↦
-          let at : get_or rows has.0 d ≡ row = get_or_default rows has.0 d row has.1 ∙ has.2 in
-          not_back (get_or rows p d).candidate.place row.candidate.place (place_before (get_or rows p d) row (here.0 ∙ sym h.0) (here.1 ∙ sym h.1) (ap (λ (r : Row). row_cmp (get_or rows p d) r) (sym at) ∙ rises p has.0 d lt has.1))
+            let at : get_or rows has.0 d ≡ row = get_or_default rows has.0 d row has.1 ∙ has.2 in
+            not_back (get_or rows p d).candidate.place row.candidate.place (place_before (get_or rows p d) row (here.0 ∙ sym h.0) (here.1 ∙ sym h.1) (ap (λ (r : Row). row_cmp (get_or rows p d) r) (sym at) ∙ rises p has.0 d lt has.1))
         | inr ge ↦
-          let same : p ≡ has.0 = omega arith in
-          let at : get_or rows p d ≡ row = ap (λ (n : ℕ). get_or rows n d) same ∙ get_or_default rows has.0 d row has.1 ∙ has.2 in
-          not_itself row (get_or rows p d) at
+            let same : p ≡ has.0 = omega arith in
+            let at : get_or rows p d ≡ row = ap (λ (n : ℕ). get_or rows n d) same ∙ get_or_default rows has.0 d row has.1 ∙ has.2 in
+            not_itself row (get_or rows p d) at
       ] where
         not_back : (x y : ℕ × ℕ × ℕ) → place_cmp x y ≡ Less → is_lt (place_cmp y x) ≡ false
         not_back x y less = by (place_cmp x y) (place_cmp y x) (place_total.antisymm y x) less where
           by : (o r : Ordering) → r ≡ ordering_reverse o → o ≡ Less → is_lt r ≡ false
           by o r turned l = ap is_lt (turned ∙ ap ordering_reverse l)
+
         not_itself : (a b : Row) → b ≡ a → is_lt (place_cmp a.candidate.place b.candidate.place) ≡ false
         not_itself a b same = rw same (ap is_lt (tied_itself place_total a.candidate.place))
 
@@ -166,14 +166,15 @@ unfolding precedes
 number_before rows rises number key m k d le within first at = elim (cases_lt k m) [
   | inr ge ↦ let same : k ≡ m = omega arith in ap (λ (n : ℕ). (get_or rows n d).shape) (sym same) ∙ at
   | inl lt ↦
-    let up = number_up (get_or rows k d) (get_or rows m d) (rises k m d lt within) in
-    by (eqb (get_or rows m d).shape number) refl first up
+      let up = number_up (get_or rows k d) (get_or rows m d) (rises k m d lt within) in
+      by (eqb (get_or rows m d).shape number) refl first up
 ] where
   number_up : (a b : Row) → row_cmp a b ≡ Less → a.shape ≤ b.shape
   number_up a b less = elim (less_front (nat_cmp a.shape b.shape) (cmp_in_shape a b) less) [
     | inl l ↦ let lt = below a.shape b.shape l in omega arith
     | inr e ↦ let same = level a.shape b.shape e.0 in omega arith
   ]
+
   by : (b : Bool) → eqb (get_or rows m d).shape number ≡ b → cond b (is_lt (slice_cmp nat_cmp (get_or rows m d).key.items key)) (ltb (get_or rows m d).shape number) ≡ true → (get_or rows k d).shape ≤ (get_or rows m d).shape → (get_or rows m d).shape ≡ number
   by true e first up = grind (arith, nat_tests)
   by false e first up =
@@ -189,6 +190,7 @@ precedes_cases number key row h = by (eqb row.shape number) refl h where
   less_of Less h = refl
   less_of Equal h = absurd cc
   less_of Greater h = absurd cc
+
   by : (b : Bool) → eqb row.shape number ≡ b → cond b (is_lt (slice_cmp nat_cmp row.key.items key)) (ltb row.shape number) ≡ true → (row.shape < number) ⊎ ((row.shape ≡ number) × (slice_cmp nat_cmp row.key.items key ≡ Less))
   by true e h = let same : row.shape ≡ number = grind (arith, nat_tests) in inr (same, less_of _ h)
   by false e h = let lt : row.shape < number = grind (arith, nat_tests) in inl lt
@@ -196,20 +198,20 @@ precedes_cases number key row h = by (eqb row.shape number) refl h where
 precedes_too : (number : ℕ) (key : List ℕ) (a b : Row) → row_cmp a b ≡ Less → precedes number key b ≡ true → precedes number key a ≡ true
 precedes_too number key a b less h = elim (less_front (nat_cmp a.shape b.shape) (cmp_in_shape a b) less) [
   | inl l ↦
-    let lt = below a.shape b.shape l in
-    elim (precedes_cases number key b h) [
-      | inl m ↦ precedes_by_number number key a (omega arith)
-      | inr m ↦ precedes_by_number number key a (omega (arith, m.0))
-    ]
-  | inr e ↦
-    let same = level a.shape b.shape e.0 in
-    elim (precedes_cases number key b h) [
-      | inl m ↦ precedes_by_number number key a (omega arith)
-      | inr m ↦ elim (less_front (slice_cmp nat_cmp a.key.items b.key.items) (place_cmp a.candidate.place b.candidate.place) e.1) [
-        | inl l ↦ precedes_by_key number key a (same ∙ m.0) (nat_list_cmp_total.trans a.key.items b.key.items key l m.1)
-        | inr l ↦ precedes_by_key number key a (same ∙ m.0) (ap (λ (xs : List ℕ). slice_cmp nat_cmp xs key) (same_keys a.key.items b.key.items l.0) ∙ m.1)
+      let lt = below a.shape b.shape l in
+      elim (precedes_cases number key b h) [
+        | inl m ↦ precedes_by_number number key a (omega arith)
+        | inr m ↦ precedes_by_number number key a (omega (arith, m.0))
       ]
-    ]
+  | inr e ↦
+      let same = level a.shape b.shape e.0 in
+      elim (precedes_cases number key b h) [
+        | inl m ↦ precedes_by_number number key a (omega arith)
+        | inr m ↦ elim (less_front (slice_cmp nat_cmp a.key.items b.key.items) (place_cmp a.candidate.place b.candidate.place) e.1) [
+          | inl l ↦ precedes_by_key number key a (same ∙ m.0) (nat_list_cmp_total.trans a.key.items b.key.items key l m.1)
+          | inr l ↦ precedes_by_key number key a (same ∙ m.0) (ap (λ (xs : List ℕ). slice_cmp nat_cmp xs key) (same_keys a.key.items b.key.items l.0) ∙ m.1)
+        ]
+      ]
 ]
 
 not_false : (b : Bool) → (b ≡ true → ⊥) → b ≡ false
@@ -364,18 +366,19 @@ module _ (rows : List Row) (rises : AreRising rows) (number : ℕ) (key : List �
       } where
         cost : (after ≡ mid + 1) ⊎ (after ≡ mid)
         cost = one_or_none row.shape number mid after counted free
+
         number_there : (other : Row) (has : Contains rows other) → p ≤ has.0 → other.shape ≡ number → row.shape ≡ number
         number_there other has ge same = elim (cases_lt row.shape number) [
           | inl lt ↦ absurd (both (precedes number key row) (precedes_by_number number key row lt) (ap (precedes number key) at ∙ behind p row (omega arith) inside))
           | inr le ↦ elim (cases_lt p has.0) [
             | inl l ↦
-              let less : row_cmp row other ≡ Less = ap (λ (r : Row). row_cmp r other) at ∙ ap (λ (r : Row). row_cmp (get_or rows p row) r) (sym has.2) ∙ ap (λ (r : Row). row_cmp (get_or rows p row) r) (get_or_default rows has.0 other row has.1) ∙ rises p has.0 row l has.1 in
-              elim (less_front (nat_cmp row.shape other.shape) (cmp_in_shape row other) less) [
-                | inl a ↦ let lt = below row.shape other.shape a in omega arith
-                | inr e ↦ level row.shape other.shape e.0 ∙ same
-              ]
+                let less : row_cmp row other ≡ Less = ap (λ (r : Row). row_cmp r other) at ∙ ap (λ (r : Row). row_cmp (get_or rows p row) r) (sym has.2) ∙ ap (λ (r : Row). row_cmp (get_or rows p row) r) (get_or_default rows has.0 other row has.1) ∙ rises p has.0 row l has.1 in
+                elim (less_front (nat_cmp row.shape other.shape) (cmp_in_shape row other) less) [
+                  | inl a ↦ let lt = below row.shape other.shape a in omega arith
+                  | inr e ↦ level row.shape other.shape e.0 ∙ same
+                ]
             | inr l ↦
-              let equal : p ≡ has.0 = omega arith in
-              ap (λ (r : Row). r.shape) (at ∙ ap (λ (n : ℕ). get_or rows n row) equal ∙ get_or_default rows has.0 row other has.1 ∙ has.2) ∙ same
+                let equal : p ≡ has.0 = omega arith in
+                ap (λ (r : Row). r.shape) (at ∙ ap (λ (n : ℕ). get_or rows n row) equal ∙ get_or_default rows has.0 row other has.1 ∙ has.2) ∙ same
           ]
         ]

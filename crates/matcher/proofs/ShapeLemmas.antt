@@ -1,15 +1,15 @@
 -- The numbers of shapes: each shape has one, and there are no more than classifiers.
-use Rattle.std.proofs.Common.{◌≡◌, ◌≢◌, ℕ, suc, ◌+◌, ◌-◌, ◌<◌, ◌≤◌, Bool, true, false, eqb, List, [], ◌∷◌, ◌++◌, length, get_or, set, map, Option, Some, None, refl, sym, ap, ◌∙◌, inl, inr, arith, Contains, get_or-set_same, get_or-set_other, length-append}
+use Rattle.std.proofs.Common.{◌≡◌, ◌≢◌, ℕ, suc, ◌+◌, ◌<◌, ◌≤◌, true, false, eqb, List, [], ◌∷◌, ◌++◌, length, get_or, set, Option, refl, sym, ap, ◌∙◌, inl, inr, arith, Contains, get_or-set_same, get_or-set_other, length-append}
 use Rattle.std.specs.List.{list_any}
 use Rattle.std.proofs.Math.ListN.{length-set}
 use Rattle.std.proofs.lemmas.Bool.{cases_lt}
 use Rattle.std.proofs.lemmas.Bool.Decides.{nat_tests}
 use Rattle.std.proofs.lemmas.List.{get_or_default, get_or-map, same_lists, get_or_append_left, get_or_push}
 use Rattle.std.proofs.lemmas.List.Folds.{list_any_at}
-use Rattle.ff_headers.specs.SelectorParts.{SelectorParts, blank_selector}
+use Rattle.ff_headers.specs.SelectorParts.{SelectorParts}
 use Rattle.ff_headers.specs.declared.kind.Kind.{Kind}
 use Rattle.matcher.specs.Keys.{Shape, shape_of, part_of}
-use Rattle.matcher.specs.Rows.{Kept, id_of, selectors_at, IsRow, IsNew, AreUsed, AreRows}
+use Rattle.matcher.specs.Rows.{Kept, selectors_at, IsNew, AreRows}
 use Rattle.matcher.specs.declared.rows.Row.{Row}
 
 -- ---- a shape, selector by selector
@@ -36,8 +36,8 @@ pub one_part_more : (a b : List SelectorParts) (i : ℕ) (s t : SelectorParts) �
 one_part_more a b i s t within long is it here below k d lt = elim (cases_lt k i) [
   | inl before ↦ below k d before
   | inr behind ↦
-    let same : k ≡ i = omega arith in
-    rw same (part_at a i s d within is ∙ here ∙ sym (part_at b i t d (omega arith) it))
+      let same : k ≡ i = omega arith in
+      rw same (part_at a i s d within is ∙ here ∙ sym (part_at b i t d (omega arith) it))
 ]
 
 pub same_shapes : (a b : List SelectorParts) (n : ℕ) → length a ≡ length b → length a ≤ n → ((k : ℕ) (d : Kind × List ℕ) → k < n → get_or (shape_of a) k d ≡ get_or (shape_of b) k d) → shape_of a ≡ shape_of b
@@ -72,24 +72,24 @@ module _ (kept : ℕ → Option Kept) (shapes : List (List SelectorParts)) (rows
     by_place : (i j : ℕ) → i < j → j < length shapes → shape_of (selectors_at (set shapes number selectors) i) ≢ shape_of (selectors_at (set shapes number selectors) j)
     by_place i j lt within = elim (cases_lt i number) [
       | inl a ↦
-        let off : i ≢ number = (λ e. omega arith) in
-        elim (cases_lt j number) [
-          | inl b ↦ let off' : j ≢ number = (λ e. omega arith) in λ e. was.apart i j lt within (sym (ap shape_of (get_or-set_other shapes number i selectors [] off)) ∙ e ∙ ap shape_of (get_or-set_other shapes number j selectors [] off'))
-          | inr b ↦ elim (cases_lt number j) [
-            | inl c ↦ let off' : j ≢ number = (λ e. omega arith) in λ e. was.apart i j lt within (sym (ap shape_of (get_or-set_other shapes number i selectors [] off)) ∙ e ∙ ap shape_of (get_or-set_other shapes number j selectors [] off'))
-            | inr c ↦
-              let same : j ≡ number = omega arith in
-              λ e. new i (omega arith) (sym (ap shape_of (get_or-set_other shapes number i selectors [] off)) ∙ e ∙ ap (λ (n : ℕ). shape_of (selectors_at (set shapes number selectors) n)) same ∙ ap shape_of (get_or-set_same shapes number selectors [] inside))
+          let off : i ≢ number = (λ e. omega arith) in
+          elim (cases_lt j number) [
+            | inl b ↦ let off' : j ≢ number = (λ e. omega arith) in λ e. was.apart i j lt within (sym (ap shape_of (get_or-set_other shapes number i selectors [] off)) ∙ e ∙ ap shape_of (get_or-set_other shapes number j selectors [] off'))
+            | inr b ↦ elim (cases_lt number j) [
+              | inl c ↦ let off' : j ≢ number = (λ e. omega arith) in λ e. was.apart i j lt within (sym (ap shape_of (get_or-set_other shapes number i selectors [] off)) ∙ e ∙ ap shape_of (get_or-set_other shapes number j selectors [] off'))
+              | inr c ↦
+                  let same : j ≡ number = omega arith in
+                  λ e. new i (omega arith) (sym (ap shape_of (get_or-set_other shapes number i selectors [] off)) ∙ e ∙ ap (λ (n : ℕ). shape_of (selectors_at (set shapes number selectors) n)) same ∙ ap shape_of (get_or-set_same shapes number selectors [] inside))
+            ]
           ]
-        ]
       | inr a ↦
-        let off' : j ≢ number = (λ e. omega arith) in
-        elim (cases_lt number i) [
-          | inl c ↦ let off : i ≢ number = (λ e. omega arith) in λ e. was.apart i j lt within (sym (ap shape_of (get_or-set_other shapes number i selectors [] off)) ∙ e ∙ ap shape_of (get_or-set_other shapes number j selectors [] off'))
-          | inr c ↦
-            let same : i ≡ number = omega arith in
-            λ e. new j within (sym (ap shape_of (get_or-set_other shapes number j selectors [] off')) ∙ sym e ∙ ap (λ (n : ℕ). shape_of (selectors_at (set shapes number selectors) n)) same ∙ ap shape_of (get_or-set_same shapes number selectors [] inside))
-        ]
+          let off' : j ≢ number = (λ e. omega arith) in
+          elim (cases_lt number i) [
+            | inl c ↦ let off : i ≢ number = (λ e. omega arith) in λ e. was.apart i j lt within (sym (ap shape_of (get_or-set_other shapes number i selectors [] off)) ∙ e ∙ ap shape_of (get_or-set_other shapes number j selectors [] off'))
+            | inr c ↦
+                let same : i ≡ number = omega arith in
+                λ e. new j within (sym (ap shape_of (get_or-set_other shapes number j selectors [] off')) ∙ sym e ∙ ap (λ (n : ℕ). shape_of (selectors_at (set shapes number selectors) n)) same ∙ ap shape_of (get_or-set_same shapes number selectors [] inside))
+          ]
     ]
 
   -- ---- one number more
@@ -107,8 +107,8 @@ module _ (kept : ℕ → Option Kept) (shapes : List (List SelectorParts)) (rows
         elim (cases_lt j (length shapes)) [
           | inl b ↦ λ e. was.apart i j lt b (sym (ap shape_of (at_front i (omega arith))) ∙ e ∙ ap shape_of (at_front j b))
           | inr b ↦
-            let same : j ≡ length shapes = omega arith in
-            λ e. new i (omega arith) (sym (ap shape_of (at_front i (omega arith))) ∙ e ∙ ap (λ (n : ℕ). shape_of (selectors_at (shapes ++ selectors ∷ []) n)) same ∙ ap shape_of at_end)
+              let same : j ≡ length shapes = omega arith in
+              λ e. new i (omega arith) (sym (ap shape_of (at_front i (omega arith))) ∙ e ∙ ap (λ (n : ℕ). shape_of (selectors_at (shapes ++ selectors ∷ []) n)) same ∙ ap shape_of at_end)
         ];
     rising = was.rising;
     sound = λ row has.

@@ -1,5 +1,5 @@
 -- What a search in the rows finds, and the keys that it compares. This project's own.
-use Rattle.std.specs.Prelude.{◌≡◌, ◌≢◌, ℕ, ◌+◌, ◌*◌, ◌^◌, ◌<◌, ◌≤◌, Bool, true, false, ◌==◌, nat_lt, Option, Some, IsSome, List, length, slice_index_or, Contains, MatchOption, if◌then◌else◌}
+use Rattle.std.specs.Prelude.{◌≡◌, ◌≢◌, ℕ, ◌+◌, ◌*◌, ◌^◌, ◌<◌, ◌≤◌, Bool, false, ◌==◌, nat_lt, Option, Some, IsSome, List, length, slice_index_or, Contains, MatchOption, if◌then◌else◌}
 use Rattle.std.specs.Ordering.{nat_cmp, is_lt}
 use Rattle.std.specs.Cmp.Lexicographic.{slice_cmp}
 use Rattle.ff_headers.specs.SelectorParts.{SelectorParts}
@@ -28,7 +28,7 @@ abbrev pub IsFirstAmong : List Row → (Row → Type 0) → Option Candidate →
 IsFirstAmong rows kind first = MatchOption first
     ((row : Row) → Contains rows row → ¬ kind row)
     (λ candidate. ((row : Row) × Contains rows row × kind row × (row.candidate ≡ candidate))
-        × ((row : Row) → Contains rows row → kind row → is_lt (place_cmp row.candidate.place candidate.place) ≡ false))
+    × ((row : Row) → Contains rows row → kind row → is_lt (place_cmp row.candidate.place candidate.place) ≡ false))
 
 -- the comparisons of one search among the rows of a number: at least one where there is such a row, none where there
 -- isn't, and at most one more than the halvings of the rows' count

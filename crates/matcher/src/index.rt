@@ -39,7 +39,11 @@ impl RowIndex {
     }
 
     /// The first of the rules' rows that fit the headers, shape by shape.
-    pub(crate) fn first<L: Ledger>(&self, headers: &Headers, steps: &mut Steps<L>) -> Option<Candidate>
+    pub(crate) fn first<L: Ledger>(
+        &self,
+        headers: &Headers,
+        steps: &mut Steps<L>,
+    ) -> Option<Candidate>
         requires rising { AreRising self.now.rows.items }
         requires apart { AreApart self.now.shapes.items }
         ensures first { IsFirstAmong self.now.rows.items
@@ -153,14 +157,21 @@ impl RowIndex {
             → vec_len self.old.shapes < vec_capacity self.old.shapes }
         ensures rows { (kept : ℕ → Option Kept) → AreRows kept self.old.shapes.items self.old.rows.items → kept id ≡ None
             → AreRows (with_kept kept id (Some (kept_with group_priority (id, rule.now) selectors.now)))
-                self.new.shapes.items self.new.rows.items }
+            self.new.shapes.items self.new.rows.items }
         ensures rows_room { vec_capacity self.new.rows ≡ vec_capacity self.old.rows }
         ensures shapes_room { vec_capacity self.new.shapes ≡ vec_capacity self.old.shapes }
     {
         let shape = number_for(&mut self.shapes, &self.rows, selectors);
         let key = masked_key(selectors, rule.key());
         let candidate = candidate_with(group_priority, id, rule);
-        put_row(&mut self.rows, Row { shape, key, candidate });
+        put_row(
+            &mut self.rows,
+            Row {
+                shape,
+                key,
+                candidate,
+            },
+        );
     }
 }
 

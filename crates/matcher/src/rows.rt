@@ -62,7 +62,7 @@ fn place_for(rows: &[Row], row: &Row) -> usize
     ensures bound { result ≤ length rows.now }
     ensures parted { IsPartitionedBy (λ held. stands_before held row.now) rows.now
         → IsPartitionPoint (λ held. stands_before held row.now ≡ true) (λ held. stands_before held row.now ≡ false)
-            rows.now result }
+        rows.now result }
 {
     rows.partition_point(|held| stands_before(held, row))
 }

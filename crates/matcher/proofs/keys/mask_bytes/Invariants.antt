@@ -1,4 +1,4 @@
-use Rattle.std.proofs.Common.{◌≡◌, ℕ, ◌<◌, ◌≤◌, length, get_or, bit_and}
+use Rattle.std.proofs.Common.{◌≡◌, ℕ, ◌<◌, ◌≤◌, get_or, bit_and}
 use Rattle.matcher.proofs.keys.mask_bytes.Given as goal
 
 abbrev pub invariant-loop-j : goal.invariant-loop-j

@@ -1,5 +1,5 @@
-use Rattle.std.proofs.Common.{◌<◌, length, subst, ◌∙◌, ap, sym}
-use Rattle.matcher.specs.Rows.{AreRows, with_kept, id_of}
+use Rattle.std.proofs.Common.{◌∙◌, ap}
+use Rattle.matcher.specs.Rows.{id_of}
 use Rattle.matcher.proofs.RowLemmas.{rows_dropped, rows_without}
 use Rattle.matcher.proofs.rows.drop_row.Goals as goal
 

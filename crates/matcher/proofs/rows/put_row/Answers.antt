@@ -1,4 +1,4 @@
-use Rattle.std.proofs.Common.{◌≡◌, length, is_ok, true, arith}
+use Rattle.std.proofs.Common.{◌≡◌, is_ok, true, arith}
 use Rattle.std.specs.List.{insert}
 use Rattle.matcher.proofs.RowLemmas.{parted, rows_put_at}
 use Rattle.matcher.proofs.rows.put_row.Goals as goal

@@ -1,4 +1,4 @@
-use Rattle.std.proofs.Common.{◌≡◌, refl, sym, ap, ◌∙◌, arith}
+use Rattle.std.proofs.Common.{◌≡◌, refl, sym, ◌∙◌, arith}
 use Rattle.matcher.proofs.SearchLemmas.{search_begun, search_low, search_high}
 use Rattle.matcher.proofs.search.place_of.Goals as goal
 

@@ -1,5 +1,4 @@
 use Rattle.std.proofs.Common.{◌≡◌, ℕ, ◌<◌, get_or}
-use Rattle.ff_headers.specs.SelectorParts.{SelectorParts}
 use Rattle.matcher.specs.Keys.{shape_of}
 use Rattle.ff_headers.specs.declared.kind.Kind.{Kind}
 use Rattle.std.specs.Prelude.{List}

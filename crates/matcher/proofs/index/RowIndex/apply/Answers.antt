@@ -1,8 +1,5 @@
-use Rattle.std.proofs.Common.{◌≡◌, true, false, sym, ap, ◌∙◌, subst}
-use Rattle.ff_headers.specs.Objects.{FlowObjects}
-use Rattle.ff_headers.specs.Changes.{is_sound, step, with_change_made}
+use Rattle.std.proofs.Common.{sym, ◌∙◌}
 use Rattle.matcher.specs.Rows.{kept_under}
-use Rattle.matcher.specs.Indexes.{IsIndex}
 use Rattle.matcher.proofs.IndexLemmas.{same_index, index_stepped, index_unchanged, index_closed, rule_dropped, group_dropped, classifier_put, classifier_dropped}
 use Rattle.matcher.proofs.RowLemmas.{same_kept}
 use Rattle.matcher.proofs.index.RowIndex.apply.Goals as goal

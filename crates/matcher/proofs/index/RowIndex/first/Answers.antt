@@ -1,4 +1,4 @@
-use Rattle.std.proofs.Common.{◌≡◌, ◌+◌, ◌<◌, length, sym, ap, ◌∙◌, subst, arith, ℕ}
+use Rattle.std.proofs.Common.{◌≡◌, ◌+◌, ◌<◌, length, sym, subst, arith, ℕ}
 use Rattle.std.specs.Prelude.{Option}
 use Rattle.matcher.specs.Searches.{FitsRow, FitsBelow, IsFirstAmong, IsTotalCost}
 use Rattle.matcher.specs.declared.rows.Row.{Row}

@@ -1,9 +1,9 @@
-use Rattle.std.proofs.Common.{◌≡◌, ◌<◌, List, [], length, Some, sym, ap, ◌∙◌, arith}
+use Rattle.std.proofs.Common.{◌≡◌, List, [], Some, sym, ap, ◌∙◌}
 use Rattle.std.proofs.lemmas.List.{get_or_default}
 use Rattle.ff_headers.specs.SelectorParts.{SelectorParts}
 use Rattle.matcher.specs.Keys.{frame_key}
 use Rattle.matcher.specs.Rows.{selectors_at}
-use Rattle.matcher.specs.Searches.{HasKey, FitsRow, IsShapeCost}
+use Rattle.matcher.specs.Searches.{HasKey, FitsRow}
 use Rattle.matcher.specs.declared.rows.Row.{Row}
 use Rattle.matcher.proofs.FirstLemmas.{same_kind, fits_from_key, key_from_fits}
 use Rattle.matcher.proofs.index.RowIndex.first_in.Goals as goal

@@ -1,6 +1,6 @@
-use Rattle.std.proofs.Common.{◌<◌, length, arith, inl, inr, sym}
+use Rattle.std.proofs.Common.{◌<◌, length, arith, inl, inr}
 use Rattle.std.proofs.lemmas.Option.{slice_get_cases}
-use Rattle.matcher.specs.Rows.{moved, moved_so_far, kept_under}
+use Rattle.matcher.specs.Rows.{moved_so_far}
 use Rattle.matcher.proofs.IndexLemmas.{moved_none, moved_once, moved_all, moved_are_held, same_index}
 use Rattle.matcher.proofs.index.RowIndex.move_group.Goals as goal
 

@@ -1,8 +1,8 @@
-use Rattle.std.proofs.Common.{◌≡◌, Some, sym, ap, ◌∙◌, eqb, true, false}
+use Rattle.std.proofs.Common.{◌≡◌, Some, sym, ap, ◌∙◌}
 use Rattle.std.specs.Prelude.{slice_get}
 use Rattle.ff_headers.specs.Places.{RuleEntry}
 use Rattle.matcher.proofs.IndexLemmas.{held_at, held_has_room, same_index, moved_yes, moved_no}
-use Rattle.matcher.specs.Rows.{moved, kept_by}
+use Rattle.matcher.specs.Rows.{moved}
 use Rattle.matcher.proofs.index.RowIndex.move_rule.Goals as goal
 
 pub renew-requires-clause-backed : goal.renew-requires-clause-backed

@@ -1,5 +1,4 @@
-use Rattle.std.proofs.Common.{◌∙◌, sym, ap}
-use Rattle.matcher.specs.Rows.{IsRow, kept_with}
+use Rattle.matcher.specs.Rows.{kept_with}
 use Rattle.matcher.proofs.index.RowIndex.put.Goals as goal
 
 pub returns-clause-rows : goal.returns-clause-rows

@@ -1,4 +1,4 @@
-use Rattle.std.proofs.Common.{sym, ap, ◌∙◌}
+use Rattle.std.proofs.Common.{ap, ◌∙◌}
 use Rattle.matcher.specs.Rows.{with_kept, kept_by, kept_under}
 use Rattle.matcher.proofs.IndexLemmas.{rule_sound, kept_are_held, rule_put, same_index}
 use Rattle.matcher.proofs.index.RowIndex.put_rule.Goals as goal

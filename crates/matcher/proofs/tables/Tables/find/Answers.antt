@@ -1,4 +1,4 @@
-use Rattle.std.proofs.Common.{◌≡◌, Option, Some, None, refl, sym, ap, subst, ◌∙◌}
+use Rattle.std.proofs.Common.{◌≡◌, Some, None, ap, subst}
 use Rattle.std.specs.Option.{option_map}
 use Rattle.ff_headers.specs.Objects.{FlowObjects}
 use Rattle.ff_headers.specs.Places.{first_rule}

@@ -1,4 +1,4 @@
-use Rattle.std.proofs.Common.{refl, ap, subst}
+use Rattle.std.proofs.Common.{ap, subst}
 use Rattle.ff_headers.specs.Objects.{FlowObjects}
 use Rattle.matcher.specs.Tables.{TableState}
 use Rattle.matcher.specs.Findings.{found_none}
