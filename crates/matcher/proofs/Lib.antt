@@ -1,2 +1,12 @@
 pub mod ScanLemmas
 pub mod FoundLemmas
+pub mod RowLemmas
+pub mod KeyLemmas
+pub mod Pigeonhole
+pub mod ShapeLemmas
+pub mod RoomLemmas
+pub mod IndexLemmas
+pub mod SearchLemmas
+pub mod MatchKeys
+pub mod FirstLemmas
+pub mod CostLemmas

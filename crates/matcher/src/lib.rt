@@ -15,8 +15,13 @@
 #![tactic(auto)]
 
 mod found;
+mod index;
+mod keys;
 pub mod laws;
+mod rows;
 mod scan;
+mod search;
+mod shapes;
 mod tables;
 
 pub use found::Found;

@@ -66,7 +66,7 @@ fn place_of(store: &Store, id: u32, rule: &RuleObj) -> Place
 }
 
 /// What a rule of this action and virtqueue index does: an even index names the receive queue of half its number.
-fn action_with(action: RuleAction, vq: u16) -> Action
+pub(crate) fn action_with(action: RuleAction, vq: u16) -> Action
     ensures { result ≡ action_with action vq }
 {
     match action {
@@ -76,7 +76,7 @@ fn action_with(action: RuleAction, vq: u16) -> Action
 }
 
 /// The first of two rules that match.
-fn earlier(first: Option<Candidate>, next: Option<Candidate>) -> Option<Candidate>
+pub(crate) fn earlier(first: Option<Candidate>, next: Option<Candidate>) -> Option<Candidate>
     ensures { result ≡ earlier first next }
 {
     match (first, next) {

@@ -5,8 +5,11 @@ ghost use Rattle.ff_headers.specs.Objects.{IsWellFormed};
 ghost use Rattle.ff_headers.specs.Places.{RuleEntry, IsMatching, action_of};
 ghost use Rattle.matcher.specs.Tables.{no_changes, applied};
 ghost use Rattle.matcher.specs.Findings.{found_in, IsFirstUnder};
+ghost use Rattle.matcher.specs.Comparisons.{IsBounded};
 
 use crate::found::Found;
+use crate::index::RowIndex;
+use crate::keys::have_sizes;
 use crate::scan::first_candidate;
 use ff_headers::{Action, Change, Headers, Limits, Steps};
 use ff_store::Store;
@@ -18,15 +21,20 @@ use std::sync::ledger::Ledger;
 #[derive(Drop)]
 pub struct Tables {
     store: Store,
+    index: RowIndex,
     count: u64,
 }
 
 impl Model for Tables {
     ghost use Rattle.matcher.specs.Tables.{TableState, tables_with};
+    ghost use Rattle.matcher.specs.Rows.{kept_under};
+    ghost use Rattle.matcher.specs.Indexes.{IsIndex};
 
     ghost Value = { TableState };
 
     ghost view = { λ t. tables_with t.store.limits t.store.objects t.count };
+
+    ghost invariant = { λ t. IsIndex t.store.limits (kept_under t.store.objects) t.index };
 }
 
 impl Tables {
@@ -36,6 +44,7 @@ impl Tables {
     {
         Ok(Tables {
             store: Store::new(alloc, limits)?,
+            index: RowIndex::new(alloc, limits)?,
             count: 0,
         })
     }
@@ -60,16 +69,38 @@ impl Tables {
         ensures { self.new ≡ applied self.old change }
     {
         self.count = change.count_after(self.count);
+        self.index.apply(&self.store, &change);
         self.store.apply(change);
     }
 
-    /// The first rule that matches a frame with these headers, and what happens to the frame. It counts no step.
+    /// The first rule that matches a frame with these headers, and what happens to the frame. A step is a comparison of
+    /// two keys: at least one for each shape of a rule's classifier whose headers the frame has, and at most as many for
+    /// each shape as it takes to halve the rules' count, and two more.
     pub fn find<L: Ledger>(&self, headers: &Headers, steps: &mut Steps<L>) -> Found
         ensures value { result ≡ found_in self.now.objects headers.now }
         ensures action { result.action ≡ action_of self.now.objects headers.now }
         ensures first { IfSome result.rule (IsFirstUnder self.now.objects headers.now) }
         ensures none { IsNone result.rule ↔ ((entry : RuleEntry) → ¬ IsMatching self.now.objects headers.now entry) }
-        ensures cost { steps.new ≡ steps.old }
+        ensures cost { IsBounded self.now.objects headers.now steps.old steps.new }
+    {
+        let _well_formed = self.store.limits();
+        have_sizes(headers);
+        match self.index.first(headers, steps) {
+            Some(first) => Found {
+                action: first.action,
+                rule: Some(first.place.2),
+            },
+            None => Found {
+                action: Action::Default,
+                rule: None,
+            },
+        }
+    }
+
+    /// What [`Tables::find`] gives, by a walk over all rules: the plain program of its definition, which tests compare
+    /// with it.
+    pub fn find_by_walk(&self, headers: &Headers) -> Found
+        ensures { result ≡ found_in self.now.objects headers.now }
     {
         let _well_formed = self.store.limits();
         match first_candidate(&self.store, headers) {
