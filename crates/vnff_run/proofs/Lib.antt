@@ -7,6 +7,7 @@ mod GrammarExamples
 mod GrammarLemmas
 mod InputLemmas
 mod ItemBounds
+mod LoadLemmas
 mod PacketLemmas
 mod QueuePlaced
 mod ReplayLemmas

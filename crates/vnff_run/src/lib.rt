@@ -42,6 +42,9 @@ mod grammar;
 mod image;
 mod item_line;
 pub mod laws;
+mod load;
+mod load_text;
+mod load_words;
 mod program;
 mod replay;
 mod script;
@@ -53,6 +56,7 @@ mod text;
 mod word;
 
 pub use ending::{DONE, FAULTY_WORDS, NO_MEMORY, READ_FAULT, REFUSED, WRITE_FAULT};
+pub use generated_load::draw;
 pub use grammar::{read_device_file, read_script};
 pub use program::plain;
 pub use script::{AdminLine, Item, Reason, Script, ScriptFault};
