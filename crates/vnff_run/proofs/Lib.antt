@@ -8,6 +8,7 @@ mod GrammarLemmas
 mod InputLemmas
 mod ItemBounds
 mod LoadLemmas
+mod LoadRows
 mod PacketLemmas
 mod QueuePlaced
 mod ReplayLemmas

@@ -1,5 +1,6 @@
 -- Frames that are drawn and classified one after another, queues by number, and the table of a load on its device.
-use Rattle.std.proofs.Common.{◌≡◌, ℕ, ◌+◌, ◌<◌, List, [], ◌∷◌, ◌++◌, length, map, get_or, Result, Ok, Err, refl, sym, ap, ◌∙◌, zero-add}
+use Rattle.std.proofs.Common.{◌≡◌, ℕ, ◌+◌, ◌<◌, List, [], ◌∷◌, ◌++◌, length, get_or, Option, Some, None, Result, Ok, Err, refl, sym, ap, ◌∙◌, zero-add}
+use Rattle.std.specs.Prelude.{IfSome, ⊤}
 use Rattle.std.specs.List.{enumerate_from}
 use Rattle.std.proofs.lemmas.List.{length-map, map-append}
 use Rattle.std.proofs.lemmas.List.FromFn.{get_or-enumerate_from, length-enumerate_from}
@@ -11,13 +12,18 @@ use Rattle.generated_load.specs.DrawnFrames.{drawn_frame}
 use Rattle.generated_load.specs.DrawnTables.{drawn_specs, drawn_table, load_caps}
 use Rattle.generated_load.proofs.DrawLemmas.{each_drawn-length, each_drawn-more}
 use Rattle.generated_load.proofs.RoomLemmas.{table_compiled}
-use Rattle.ntuple_compile.specs.Compiled.{compiled, creates_of, objects_of}
+use Rattle.ntuple_compile.specs.Compiled.{creates_of, objects_of}
 use Rattle.ntuple_compile.specs.SpecFits.{table_action}
 use Rattle.ntuple_text.specs.TableMaps.{TableMap}
-use Rattle.vnff_run.specs.Endings.{JudgeStops}
+use Rattle.vnff_base.specs.Outputs.{OutputState}
+use Rattle.vnff_base.specs.Shelves.{Files, ShelfState}
+use Rattle.vnff_run.specs.Endings.{FormEnds, JudgeStops, RunsAs}
+use Rattle.vnff_run.specs.Forms.{Gen}
 use Rattle.vnff_run.specs.Inputs.{InputFault, Refused}
-use Rattle.vnff_run.specs.Loads.{actions_by}
+use Rattle.vnff_run.specs.Loads.{actions_by, gen_text}
+use Rattle.vnff_run.specs.Outcomes.{done_outcome, outcome_in}
 use Rattle.vnff_run.specs.Results.{◌>>=◌}
+use Rattle.vnff_run.proofs.EndingLemmas.{form_runs}
 use Rattle.vnff_run.specs.TableInputs.{commands_or_refusal, compiled_for}
 use Rattle.vnff_run.specs.declared.compiled.CompiledTable.{CompiledTable}
 use Rattle.vnff_run.specs.declared.stop.Stop.{Stop}
@@ -44,6 +50,18 @@ actions_more table count x state drawn action before is does =
     ap (λ a. so_far ++ a ∷ []) (does ∙ ap (λ d. table_action table (headers_of d.1)) (is ∙ ap drawn_frame before))
     ∙ sym (map-append {B = Action} (λ frame. table_action table (headers_of frame)) (frames_from count x).1 ((drawn_frame (frames_from count x).0).1 ∷ []))
     ∙ ap (λ drawn. actions_by table drawn.1) (sym (each_drawn-more (λ _. drawn_frame) count x))
+
+-- ---- the form
+
+told_or_not : {P : Files → Type 0} (told : Option Files) → ((files : Files) → P files) → IfSome told P
+told_or_not None all = tt
+told_or_not (Some files) all = all files
+
+-- what is written is the outcome whatever the files are
+pub load_ends : {A : Type 0} (shelf : ShelfState) (out out_new : OutputState) (seed frames : ℕ) (result : Result A Stop) → RunsAs out out_new (done_outcome (gen_text seed frames)) result → FormEnds shelf shelf out out_new (outcome_in (Gen seed frames)) result
+unfolding outcome_in
+load_ends shelf out out_new seed frames result ran =
+    form_runs {A = ⊤} shelf shelf out out_new (λ _. Ok tt) (λ _. done_outcome (gen_text seed frames)) tt result (refl, told_or_not shelf.files (λ files. refl)) ran
 
 -- ---- queues
 
