@@ -7,6 +7,8 @@ mod GrammarExamples
 mod GrammarLemmas
 mod InputLemmas
 mod ItemBounds
+mod LoadLemmas
+mod LoadRows
 mod PacketLemmas
 mod QueuePlaced
 mod ReplayLemmas

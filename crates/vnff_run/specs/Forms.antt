@@ -1,8 +1,10 @@
 -- The forms of words that the program takes, this project's own. The words are those behind the program's own name.
 use Rattle.std.specs.Prelude.{ℕ, List, [], ◌∷◌, codes, Option, Some, None, option_map, if◌then◌else◌}
 use Rattle.std.specs.Str.{bytes_eq}
+use Rattle.vnff_base.specs.Numbers.{number_of}
 use Rattle.split_queue.specs.declared.queue_place.Place.{Place}
 use Rattle.vnff_run.specs.DrainWords.{place_of}
+use Rattle.vnff_run.specs.LoadWords.{frame_count_of}
 use Rattle.vnff_run.specs.declared.form.Form.{Form}
 use Rattle.vnff_run.specs.declared.form.Form.TheVariants as forms
 
@@ -12,12 +14,25 @@ pub data WordForm : Type 0 where
   Drain : (image : List ℕ) → (place : Place) → WordForm
   Compile : (device table : List ℕ) → WordForm
   Table : (device table capture : List ℕ) → WordForm
+  Gen : (seed frames : ℕ) → WordForm
 
--- the form of the words: `replay SCRIPT`, `compile DEVICE TABLE`, `table DEVICE TABLE CAPTURE` or `drain IMAGE SIZE DESC
--- AVAIL USED`
+-- a load of a seed, where both words spell their numbers
+abbrev pub load_with : Option ℕ → Option ℕ → Option WordForm
+load_with (Some seed) (Some frames) = Some (Gen seed frames)
+load_with _ _ = None
+
+-- the load that the words behind `gen` ask for
+unfoldable pub load_of : List ℕ → List ℕ → Option WordForm
+load_of seed frames = load_with (number_of seed) (frame_count_of frames)
+
+-- the form of the words: `replay SCRIPT`, `gen SEED N`, `compile DEVICE TABLE`, `table DEVICE TABLE CAPTURE` or `drain IMAGE
+-- SIZE DESC AVAIL USED`
 unfoldable pub form_of : List (List ℕ) → Option WordForm
 form_of (form ∷ script ∷ []) = if bytes_eq form (codes "replay") then Some (Replay script) else None
-form_of (form ∷ device ∷ table ∷ []) = if bytes_eq form (codes "compile") then Some (Compile device table) else None
+form_of (form ∷ first ∷ second ∷ []) =
+    if bytes_eq form (codes "gen") then load_of first second
+    else if bytes_eq form (codes "compile") then Some (Compile first second)
+    else None
 form_of (form ∷ device ∷ table ∷ capture ∷ []) =
     if bytes_eq form (codes "table") then Some (Table device table capture) else None
 form_of (form ∷ image ∷ size ∷ desc ∷ avail ∷ used ∷ []) =
@@ -30,3 +45,4 @@ form_view (forms.Replay script) = Replay script.now
 form_view (forms.Drain image place) = Drain image.now place
 form_view (forms.Compile device table) = Compile device.now table.now
 form_view (forms.Table device table capture) = Table device.now table.now capture.now
+form_view (forms.Gen seed frames) = Gen seed frames

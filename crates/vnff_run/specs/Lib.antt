@@ -8,6 +8,8 @@ pub mod Forms
 pub mod Grammar
 pub mod Inputs
 pub mod ItemLines
+pub mod LoadWords
+pub mod Loads
 pub mod Outcomes
 pub mod Programs
 pub mod Readings

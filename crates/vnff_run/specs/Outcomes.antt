@@ -8,7 +8,8 @@ use Rattle.vnff_run.specs.Replay.{replay_text, line_feed}
 use Rattle.vnff_run.specs.declared.drain.Last.{Last}
 use Rattle.vnff_run.specs.declared.drain.Last.TheVariants.{Empty, Faulty}
 use Rattle.vnff_run.specs.CompileTexts.{compile_text}
-use Rattle.vnff_run.specs.Forms.{WordForm, Replay, Compile, Table, Drain, form_of}
+use Rattle.vnff_run.specs.Forms.{WordForm, Replay, Compile, Table, Drain, Gen, form_of}
+use Rattle.vnff_run.specs.Loads.{gen_text}
 use Rattle.vnff_run.specs.TableInputs.{compiled_in, table_run_in}
 use Rattle.vnff_run.specs.TableRefusals.{capture_words, limit_words, table_reason_word, unsupported_words}
 use Rattle.vnff_run.specs.Tables.{table_text}
@@ -122,6 +123,7 @@ outcome_in (Compile device table) files =
     outcome_with (λ run. done_outcome (compile_text run)) (compiled_in device table files)
 outcome_in (Table device table capture) files =
     outcome_with (λ run. done_outcome (table_text run.0.table run.1)) (table_run_in device table capture files)
+outcome_in (Gen seed frames) files = done_outcome (gen_text seed frames)
 
 -- the outcome of what may be a form
 abbrev pub outcome_by : Option WordForm → Files → Outcome

@@ -1,6 +1,6 @@
 -- Tables on a device: what the code knows of a compiled one, what its faults end a form with, and the parts of its text.
 -- The code's own.
-use Rattle.std.specs.Prelude.{ℕ, List, [], ◌∷◌, All, Option, Some, None, decimal}
+use Rattle.std.specs.Prelude.{ℕ, ◌≡◌, ⊤, List, [], ◌∷◌, All, Option, Some, None, Result, Ok, Err, decimal}
 use Rattle.ff_headers.specs.SelectorParts.{SelectorParts}
 use Rattle.admin_wire.specs.Layouts.{command_bytes}
 use Rattle.admin_wire.specs.declared.command.Command.{Command}
@@ -30,6 +30,11 @@ sent_command command = (command_bytes command, reply_room)
 pub record IsProgrammable (run : CompiledTable) : Type 0 where
   pub written : All IsWritable run.commands
   pub acts : ActAs run.caps run.commands run.table
+
+-- nothing but want of memory stops a call
+abbrev pub StopsForMemory : {A : Type 0} → Result A Stop → Type 0
+StopsForMemory (Ok _) = ⊤
+StopsForMemory (Err stop) = stop ≡ stops.Memory
 
 -- a fault of an input, as it ends a form
 abbrev pub fault_stop : InputFault → Stop

@@ -126,7 +126,11 @@ fn table_of(alloc: Global, bytes: &[u8], pairs: u8) -> Result<Table, Stop>
 
 /// The table with its commands.
 #[tactic(auto, unfolding(crate::specs::TableInputs::compiled_for))]
-fn compiled_for(alloc: Global, caps: DeviceCaps, table: Table) -> Result<CompiledTable, Stop>
+pub(crate) fn compiled_for(
+    alloc: Global,
+    caps: DeviceCaps,
+    table: Table,
+) -> Result<CompiledTable, Stop>
     requires { table.pairs ≡ caps.pairs }
     ensures judged { Judges (compiled_for caps table) result }
     ensures programmable { IfOk result IsProgrammable }

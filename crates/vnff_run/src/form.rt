@@ -3,11 +3,13 @@
 ghost use Rattle.std.specs.Prelude.{◌≡◌, map, option_map, string_bytes};
 ghost use Rattle.std.specs.Prelude.{codes, Some, None, if◌then◌else◌};
 ghost use Rattle.std.specs.Str.{bytes_eq};
-ghost use Rattle.vnff_run.specs.Forms.{form_of, form_view};
+ghost use Rattle.vnff_run.specs.Forms.{form_of, form_view, load_of};
 ghost use Rattle.vnff_run.specs.Forms.{Replay as WordReplay, Compile as WordCompile, Table as WordTable};
 
 use crate::drain_words::place_of;
+use crate::load_words::frame_count_of;
 use split_queue::Place;
+use vnff_base::num_read;
 
 /// What the words ask for. Each file is named as the words name it.
 #[derive(Clone, Copy, Debug)]
@@ -20,6 +22,8 @@ pub enum Form<'a> {
     Compile(&'a str, &'a str),
     /// `table DEVICE TABLE CAPTURE`: compile a table for a device, and classify the frames of a capture.
     Table(&'a str, &'a str, &'a str),
+    /// `gen SEED N`: classify so many frames of a seed by the table of this seed.
+    Gen(u64, u32),
 }
 
 /// The form of the words, which are those behind the program's own name.
@@ -29,6 +33,9 @@ pub fn form_of(words: &[String]) -> Option<Form<'_>>
 {
     match words {
         [form, script] => one_file(form.as_str(), script.as_str()),
+        [form, seed, frames] if form.as_str() == "gen" => {
+            load_of(seed.as_bytes(), frames.as_bytes())
+        }
         [form, device, table] => two_files(form.as_str(), device.as_str(), table.as_str()),
         [form, device, table, capture] => three_files(
             form.as_str(),
@@ -59,6 +66,16 @@ fn one_file<'a>(form: &str, script: &'a str) -> Option<Form<'a>>
     } else {
         None
     }
+}
+
+/// The load of a seed and a number of frames.
+#[tactic(auto, unfolding(crate::specs::Forms::load_of))]
+fn load_of<'a>(seed: &[u8], frames: &[u8]) -> Option<Form<'a>>
+    ensures { option_map form_view result ≡ load_of seed.now frames.now }
+{
+    let seed = num_read(seed)?;
+    let frames = frame_count_of(frames)?;
+    Some(Form::Gen(seed, frames))
 }
 
 /// The form of a word and two files.

@@ -10,6 +10,7 @@ use crate::compile::compile_table;
 use crate::drain::drain;
 use crate::ending::{FAULTY_WORDS, exit_status};
 use crate::form::{Form, form_of};
+use crate::load::sum_up_load;
 use crate::replay::replay;
 use crate::stop::Stop;
 use crate::table::classify_by_table;
@@ -18,7 +19,8 @@ use vnff_base::{Out, Shelf};
 
 /// Runs the program on its words, without its own name, and gives its exit status: 0 done, 1 an input was refused, 2
 /// the words are no form, 3 a read failed, 4 a write failed, 5 memory ran out. The forms that are built:
-/// `replay SCRIPT`, `compile DEVICE TABLE`, `table DEVICE TABLE CAPTURE` and `drain IMAGE SIZE DESC AVAIL USED`.
+/// `replay SCRIPT`, `gen SEED N`, `compile DEVICE TABLE`, `table DEVICE TABLE CAPTURE` and `drain IMAGE SIZE DESC AVAIL
+/// USED`.
 pub fn plain<S: Shelf, O: Out>(alloc: Global, words: &[String], shelf: &mut S, out: &mut O) -> u8
     ensures known { result ≤ 5 }
 
@@ -76,5 +78,6 @@ fn run<S: Shelf, O: Out>(
         Form::Table(device, table, capture) => classify_by_table(
             alloc, device, table, capture, shelf, out,
         ),
+        Form::Gen(seed, frames) => sum_up_load(alloc, seed, frames, out),
     }
 }

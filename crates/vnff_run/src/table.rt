@@ -65,7 +65,11 @@ fn classify_all<O: Out>(
 }
 
 /// A device that was sent the commands.
-fn programmed(alloc: Global, caps: DeviceCaps, commands: &[Command]) -> Result<Bench, AllocError>
+pub(crate) fn programmed(
+    alloc: Global,
+    caps: DeviceCaps,
+    commands: &[Command],
+) -> Result<Bench, AllocError>
     requires { All IsWritable commands.now }
     ensures state { IfOk result (λ bench.
         bench.device ≡ state_after (start_state caps starts.Ready) (map sent_command commands.now)) }

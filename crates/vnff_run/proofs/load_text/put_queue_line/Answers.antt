@@ -1,0 +1,18 @@
+use Rattle.vnff_base.proofs.Gathering.{gathers_after, gathers_lost, lost_before}
+use Rattle.vnff_run.specs.Loads.{queue_line}
+use Rattle.vnff_run.proofs.load_text.put_queue_line.Goals as goal
+
+pub returns-in_err-put : goal.returns-in_err-put
+unfolding queue_line
+returns-in_err-put g c =
+    gathers_lost _ _ _ c.from_residual.ensures.1 (lost_before c.in_err-put.ensures _)
+
+pub returns-in_err-put_number : goal.returns-in_err-put_number
+unfolding queue_line
+returns-in_err-put_number g c =
+    gathers_after _ _ _ _ c.in_ok-put.ensures (gathers_lost _ _ _ c.from_residual-in_err-put_number.ensures.1 (lost_before c.in_err-put_number.ensures _))
+
+pub returns : goal.returns
+unfolding queue_line
+returns g c =
+    gathers_after _ _ _ _ c.in_ok-put.ensures (gathers_after _ _ _ _ c.in_ok-put_number.ensures c.put_number_end.ensures)
