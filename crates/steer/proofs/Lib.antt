@@ -1,4 +1,7 @@
 mod Examples
+mod LiveExamples
+pub mod LiveCommandLemmas
+pub mod LegalRuns
 pub mod PieceLemmas
 pub mod ChainLemmas
 pub mod RoundLemmas

@@ -1,4 +1,6 @@
 pub mod BenchPlaces
 pub mod BenchState
 pub mod HeldCommands
+pub mod LiveCommands
+pub mod LiveRuns
 pub mod Rounds

@@ -19,8 +19,11 @@
 mod admin_line;
 mod bench;
 mod fresh;
+mod gate;
+pub mod laws;
 mod pieces;
 mod round;
 
 pub use admin_line::AdminLine;
 pub use bench::Bench;
+pub use gate::{Gate, Open};
