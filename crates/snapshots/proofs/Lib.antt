@@ -1,0 +1,6 @@
+pub mod Beginnings
+pub mod Closing
+pub mod Logging
+pub mod Adding
+pub mod Reading
+pub mod Seating

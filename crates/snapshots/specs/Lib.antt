@@ -1,0 +1,12 @@
+pub mod Lists
+pub mod Reads
+pub mod Ends
+pub mod Workers
+pub mod Logs
+pub mod Law
+pub mod Trails
+pub mod Copying
+pub mod Seats
+pub mod FloorSteps
+pub mod Doors
+pub mod Fresh
