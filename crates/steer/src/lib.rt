@@ -21,9 +21,13 @@ mod bench;
 mod fresh;
 mod gate;
 pub mod laws;
+mod live_result;
+mod live_run;
 mod pieces;
 mod round;
 
 pub use admin_line::AdminLine;
 pub use bench::Bench;
 pub use gate::{Gate, Open};
+pub use live_result::{LiveResult, read_at};
+pub use live_run::live;
