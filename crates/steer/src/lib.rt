@@ -17,14 +17,18 @@
 #![tactic(auto)]
 
 mod admin_line;
+mod admin_side;
 mod bench;
+mod beside;
 mod fresh;
 mod gate;
 pub mod laws;
 mod live_result;
 mod live_run;
 mod pieces;
+mod reading;
 mod round;
+mod workers;
 
 pub use admin_line::AdminLine;
 pub use bench::Bench;
