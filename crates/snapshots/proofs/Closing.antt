@@ -1,8 +1,8 @@
 -- Where `Close` stands in a list of changes.
-use Rattle.std.proofs.Common.{◌≡◌, ℕ, zero, suc, Bool, true, false, not, ◌||◌, cond, List, [], ◌∷◌, ◌++◌, length, take, fold, All, refl, ap, sym, subst, ◌∙◌, arith, append_assoc}
+use Rattle.std.proofs.Common.{◌≡◌, suc, Bool, true, false, not, ◌||◌, cond, List, [], ◌∷◌, ◌++◌, length, take, fold, refl, ap, sym, subst, ◌∙◌, arith, append_assoc}
 use Rattle.std.proofs.lemmas.List.{append-nil}
 use Rattle.std.proofs.lemmas.List.Sums.{sum_by-cons}
-use Rattle.std.specs.List.{list_any, count_by}
+use Rattle.std.specs.List.{list_any}
 use mathlib.Core.List.{IsPrefix}
 use Rattle.ff_headers.specs.Objects.{FlowObjects, no_objects}
 use Rattle.ff_headers.specs.Changes.{is_close, is_sound, step, after, change_count}
@@ -10,7 +10,6 @@ use Rattle.ff_headers.specs.declared.limits.Limits.{Limits}
 use Rattle.ff_headers.specs.declared.change.Change.{Change}
 use Rattle.ff_headers.specs.declared.change.Change.TheVariants.{PutGroup, DropGroup, PutClassifier, DropClassifier, PutRule, DropRule, Close}
 use Rattle.snapshots.specs.Lists.{is_open, ClosesLast, Covers}
-use Rattle.snapshots.proofs.Beginnings.{prefix_trans}
 
 close_is : (c : Change) → is_close c ≡ true → c ≡ Close
 close_is (PutGroup a b) h = absurd cc

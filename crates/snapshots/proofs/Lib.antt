@@ -4,3 +4,4 @@ pub mod Logging
 pub mod Adding
 pub mod Reading
 pub mod Seating
+pub mod Publishing

@@ -1,9 +1,9 @@
 -- A log stands for its reads still when the list has grown, and when one read more was logged.
-use Rattle.std.proofs.Common.{◌≡◌, ℕ, zero, suc, ◌+◌, ◌-◌, ◌<◌, ◌≤◌, ◌^◌, min, Bool, true, false, not, cond, fold, List, [], ◌∷◌, ◌++◌, length, take, get_or, nat_lt, Some, slice_get, All, refl, ap, sym, subst, ◌∙◌, ◌⊎◌, inl, inr, arith, length-append, le_trans}
+use Rattle.std.proofs.Common.{◌≡◌, ℕ, zero, suc, ◌+◌, ◌-◌, ◌<◌, ◌≤◌, ◌^◌, true, not, cond, fold, List, [], ◌∷◌, ◌++◌, length, take, get_or, nat_lt, Some, slice_get, All, refl, ap, sym, subst, ◌∙◌, ◌⊎◌, inl, inr, arith, length-append, le_trans}
 use Rattle.std.proofs.lemmas.List.{take-append-le}
 use Rattle.std.proofs.lemmas.Option.{slice_get-get_or}
 use Rattle.std.proofs.lemmas.List.Sums.{count_by-le-length, sum_by-append}
-use Rattle.std.specs.List.{count_by, sum_by}
+use Rattle.std.specs.List.{sum_by}
 use Rattle.std.proofs.lemmas.Bool.Decides.{nat_tests}
 use mathlib.Core.List.{IsPrefix}
 use Rattle.ff_headers.specs.Frames.{headers_of}
@@ -164,3 +164,18 @@ logged_more old new frames frame seen limits log read short h =
 
 pub noted_more : (log : List Seen) (spare : ℕ) (seen : Seen) → 0 < spare → noted log spare seen ≡ log ++ seen ∷ []
 noted_more log spare seen h = let e : nat_lt 0 spare ≡ true = grind (arith, nat_tests) in rw e refl
+
+pub after_counted : (limits : Limits) (list floor : List Change) (k : ℕ) → IsPrefix floor list → k ≤ change_count floor
+    → after limits floor k ≡ after limits list k
+after_counted limits list floor k p le =
+    after_front limits floor list k p (le_trans le (count_by-le-length (λ c. not (is_close c)) floor))
+
+pub logged_empty : (worker : WorkerState) → worker.log ≡ [] → Logged worker []
+logged_empty worker e = record {
+  long = ap length e;
+  each = λ at s f hs hf. absurd (none_there f at hf);
+  rises = λ i j a b less hs ht. absurd (none_there a i (ap (λ xs. slice_get xs i) (sym e) ∙ hs));
+}
+  where
+    none_there : {A : Type 0} (x : A) (k : ℕ) → slice_get [] k ≡ Some x → ⊥
+    none_there x k h = cc (h)

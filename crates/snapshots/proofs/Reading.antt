@@ -1,5 +1,5 @@
 -- What a read gives, and how floors stay covered.
-use Rattle.std.proofs.Common.{◌≡◌, ℕ, List, [], ◌∷◌, ◌++◌, length, All, fold, Option, refl, ap, sym, subst, ◌∙◌}
+use Rattle.std.proofs.Common.{◌≡◌, ℕ, List, [], ◌∷◌, ◌++◌, length, All, fold, Option, ap, sym, ◌∙◌}
 use Rattle.std.proofs.lemmas.List.Elements.{All-push}
 use mathlib.Core.List.{IsPrefix}
 use Rattle.ff_headers.specs.Frames.{HeaderBytes}
@@ -15,7 +15,7 @@ use Rattle.snapshots.specs.Lists.{ClosesLast, Covers}
 use Rattle.snapshots.specs.Reads.{objects_after, seen_after}
 use Rattle.snapshots.specs.Seats.{tables_after}
 use Rattle.snapshots.specs.declared.seen.Seen.{Seen}
-use Rattle.snapshots.proofs.Beginnings.{prefix_self, prefix_trans}
+use Rattle.snapshots.proofs.Beginnings.{prefix_trans}
 use Rattle.snapshots.proofs.Closing.{after_all, covers_front}
 
 -- what the whole list leaves, and its number

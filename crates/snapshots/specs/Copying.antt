@@ -8,3 +8,8 @@ use Rattle.snapshots.specs.declared.copied.Entry.TheVariants.{Blank, Made}
 abbrev pub with_entry : Copied → Entry → Copied
 with_entry copied Blank = copied
 with_entry copied (Made change trail) = record { tables = applied copied.tables change; trail = trail }
+
+-- the entry is of a change
+abbrev pub HasChange : Entry → Type 0
+HasChange Blank = ⊥
+HasChange (Made change trail) = Unit {0}

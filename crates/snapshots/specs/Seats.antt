@@ -1,12 +1,12 @@
 -- The rule that the published copy and the seats of its readers and writer keep, and what their steps tell. This
 -- project's own.
-use Rattle.std.specs.Prelude.{◌≡◌, ℕ, List, fold, Option, Some, None}
+use Rattle.std.specs.Prelude.{◌≡◌, ℕ, List, fold, Option, Some}
 use mathlib.Core.Option.{some}
 use lib.ListN.{get_elem?}
 use Rattle.ff_headers.specs.declared.limits.Limits.{Limits}
 use Rattle.ff_headers.specs.declared.change.Change.{Change}
 use Rattle.matcher.specs.Tables.{TableState, no_changes, applied}
-use Rattle.snapshots.specs.Lists.{Identity, ToldList}
+use Rattle.snapshots.specs.Lists.{ToldList, with_more}
 use Rattle.snapshots.specs.declared.copied.Copied.{Copied}
 
 -- tables after a list of changes
@@ -36,3 +36,8 @@ pub record Enters (seat : Option Copied) (before shown : Copied) (later : Option
   pub stands : shown ≡ copy_of shown.tables.limits shown.trail
   pub known : (copied : Copied) → seat ≡ Some copied → IsSame copied shown
   pub kept : later ≡ seat
+
+-- a copy stands for its list, and the trail is that list with one more change
+pub record MayShow (shown : Copied) (change : Change) (trail : ToldList) : Type 0 where
+  pub stands : shown ≡ copy_of shown.tables.limits shown.trail
+  pub longer : trail ≡ with_more shown.trail change

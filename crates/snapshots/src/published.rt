@@ -1,10 +1,14 @@
 //! The writing side: both copies, and the pen with which changes are logged.
 
-ghost use Rattle.std.specs.Prelude.{◌≡◌, ◌++◌, ◌∷◌, [], MatchResult, IfSome, Some, true, false};
-ghost use Rattle.ff_headers.specs.Changes.{is_close};
-ghost use Rattle.snapshots.specs.Lists.{is_open, with_more};
+ghost use Rattle.std.specs.Prelude.{◌≡◌, ◌++◌, ◌∷◌, [], drop, MatchResult, IsSomeAnd, Some, true};
+ghost use Rattle.ff_headers.specs.declared.limits.Limits.{Limits};
+ghost use Rattle.snapshots.specs.Lists.{ToldList, is_open};
 ghost use Rattle.snapshots.specs.Ends.{told_by, with_list};
-ghost use Rattle.snapshots.specs.Seats.{copy_of};
+ghost use Rattle.snapshots.specs.Fresh.{end_of};
+ghost use Rattle.ff_headers.specs.declared.change.Change.{Change};
+ghost use Rattle.snapshots.specs.Copying.{HasChange};
+ghost use Rattle.snapshots.specs.Seats.{copy_of, MayShow};
+ghost use Rattle.snapshots.specs.declared.copied.Entry.TheVariants.{Made};
 
 use crate::copied::Entry;
 use crate::pen::Pen;
@@ -39,6 +43,19 @@ impl Model for Published {
 }
 
 impl Published {
+    /// What publishes with these copies, which stand for the pen's list.
+    pub(crate) fn over(copies: Copies, pen: Pen, limits: Limits) -> Published
+        requires waits { drop copies.behind copies.log.items ≡ [] }
+        requires shown { copies.desk.shown.value ≡ copy_of limits pen }
+        ensures { result ≡ end_of pen limits }
+    {
+        Published {
+            copies: Some(copies),
+            pen,
+            limits,
+        }
+    }
+
     /// Publishes a change behind the ones before.
     pub(crate) fn add<R: Wait>(
         &mut self,
@@ -50,8 +67,14 @@ impl Published {
             (λ told. (self.new ≡ with_list self.old (self.old.list ++ change ∷ [])) × (told ≡ told_by self.new))
             (λ refused. (refused.0 ≡ change) × (self.new ≡ self.old)) }
     {
-        let _ = rt;
-        Err((change, AllocError))
+        let Some(trail) = self.pen.log(&change) else {
+            return Err((change, AllocError));
+        };
+        if let Err(change) = publish(&mut self.copies, rt, change, trail.again()) {
+            return Err((change, AllocError));
+        }
+        self.pen.go_on(trail);
+        Ok(self.tell())
     }
 
     /// What was published so far.
@@ -73,5 +96,51 @@ impl Published {
         if let Some(copies) = copies {
             drop(copies.take(rt));
         }
+    }
+}
+
+/// Publishes a change with the list that it ends. The change comes back where there is no memory; then nothing was
+/// published, and nothing waits.
+fn publish<R: Wait>(
+    copies: &mut Option<Copies>,
+    rt: &R,
+    change: Change,
+    trail: Trail,
+) -> Result<(), Change>
+    requires { IsSomeAnd copies.old (λ c. (drop c.behind c.log.items ≡ []) × MayShow c.desk.shown.value change trail) }
+    ensures { (limits : Limits) (told : ToldList) → IsSomeAnd copies.old (λ c. c.desk.shown.value ≡ copy_of limits told)
+        → MatchResult result
+        (λ _. IsSomeAnd copies.new (λ c. (drop c.behind c.log.items ≡ []) × (c.desk.shown.value ≡ copy_of limits trail)))
+        (λ back. (back ≡ change) × IsSomeAnd copies.new (λ c. (drop c.behind c.log.items ≡ [])
+        × (c.desk.shown.value ≡ copy_of limits told))) }
+{
+    let mut writer = copies.take().unwrap();
+    if let Err(entry) = writer.append(Entry::Made(change, trail)) {
+        put_back(copies, rt, writer);
+        return Err(change_of(entry));
+    }
+    let (writer, outcome) = writer.publish_as::<Show, R>(rt);
+    let _ = outcome;
+    put_back(copies, rt, writer);
+    Ok(())
+}
+
+/// Puts the copies back in their place, which is empty meanwhile.
+fn put_back<R: Wait>(place: &mut Option<Copies>, rt: &R, copies: Copies)
+    ensures { place.new ≡ Some copies }
+{
+    if let Some(others) = place.replace(copies) {
+        drop(others.take(rt));
+    }
+}
+
+/// The change of an entry that has one.
+fn change_of(entry: Entry) -> Change
+    requires { HasChange entry }
+    ensures { (change : Change) (trail : ToldList) → entry ≡ Made change trail → result ≡ change }
+{
+    match entry {
+        Entry::Made(change, _trail) => change,
+        Entry::Blank => unreachable!(),
     }
 }

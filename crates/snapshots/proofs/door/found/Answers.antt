@@ -1,7 +1,6 @@
-use Rattle.std.proofs.Common.{◌≡◌, ap, sym, subst, ◌∙◌, List}
+use Rattle.std.proofs.Common.{ap, sym, subst, ◌∙◌, List}
 use mathlib.Core.List.{IsPrefix}
 use Rattle.ff_headers.specs.declared.change.Change.{Change}
-use Rattle.matcher.specs.Tables.{TableState}
 use Rattle.snapshots.specs.Lists.{ToldList, ClosesLast}
 use Rattle.snapshots.specs.Reads.{seen_after}
 use Rattle.snapshots.specs.declared.copied.Copied.{Copied}

@@ -1,4 +1,4 @@
-use Rattle.std.proofs.Common.{◌≡◌, ap, subst, sym, ◌∙◌, List, ◌++◌, ◌∷◌, [], All, IsSomeAnd}
+use Rattle.std.proofs.Common.{◌≡◌, ap, subst, sym, ◌∙◌, List, All, IsSomeAnd}
 use mathlib.Core.List.{IsPrefix}
 use Rattle.ff_headers.specs.declared.change.Change.{Change}
 use Rattle.left_right.specs.Sides.{view as seat_view}

@@ -1,4 +1,4 @@
-use Rattle.std.proofs.Common.{◌≡◌, ap, subst, sym, ◌∙◌, refl}
+use Rattle.std.proofs.Common.{subst}
 use Rattle.snapshots.specs.Workers.{DoorState}
 use Rattle.snapshots.specs.Reads.{IsRead}
 use Rattle.snapshots.proofs.Reading.{covers_all}

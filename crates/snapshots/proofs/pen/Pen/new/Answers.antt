@@ -1,4 +1,4 @@
-use Rattle.std.proofs.Common.{ap, sym, refl, subst}
+use Rattle.std.proofs.Common.{sym, refl, subst}
 use Rattle.snapshots.specs.Lists.{ClosesLast}
 use Rattle.snapshots.proofs.Closing.{closes_last_nil}
 use Rattle.snapshots.proofs.pen.Pen.new.Goals as goal

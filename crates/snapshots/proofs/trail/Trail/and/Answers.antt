@@ -1,5 +1,4 @@
 use Rattle.std.proofs.Common.{◌≡◌, length, sym, ◌∙◌, ap, true}
-use Rattle.ff_headers.specs.declared.change.Change.{Change}
 use Rattle.snapshots.specs.Lists.{ToldList, is_open}
 use Rattle.snapshots.proofs.Adding.{adds_moves}
 use Rattle.snapshots.proofs.trail.Trail.and.Goals as goal

@@ -1,5 +1,5 @@
-use Rattle.std.proofs.Common.{◌≡◌, ap, subst, ◌∙◌, ◌++◌, ◌∷◌, []}
-use Rattle.ff_headers.specs.Frames.{HeaderBytes, headers_of}
+use Rattle.std.proofs.Common.{ap, subst, ◌∙◌}
+use Rattle.ff_headers.specs.Frames.{HeaderBytes}
 use Rattle.snapshots.specs.Reads.{IsRead}
 use Rattle.snapshots.specs.Workers.{WorkerState, noted}
 use Rattle.snapshots.proofs.Logging.{logged_more, noted_more}

@@ -1,4 +1,4 @@
-use Rattle.std.proofs.Common.{ap, sym, subst, ◌∙◌, ◌++◌, ◌∷◌, [], List, refl}
+use Rattle.std.proofs.Common.{ap, sym, subst, ◌∙◌, ◌++◌, ◌∷◌, [], List}
 use mathlib.Core.List.{IsPrefix}
 use Rattle.ff_headers.specs.declared.change.Change.{Change}
 use Rattle.snapshots.specs.Workers.{first_floor}
