@@ -164,3 +164,18 @@ logged_more old new frames frame seen limits log read short h =
 
 pub noted_more : (log : List Seen) (spare : ℕ) (seen : Seen) → 0 < spare → noted log spare seen ≡ log ++ seen ∷ []
 noted_more log spare seen h = let e : nat_lt 0 spare ≡ true = grind (arith, nat_tests) in rw e refl
+
+pub after_counted : (limits : Limits) (list floor : List Change) (k : ℕ) → IsPrefix floor list → k ≤ change_count floor
+    → after limits floor k ≡ after limits list k
+after_counted limits list floor k p le =
+    after_front limits floor list k p (le_trans le (count_by-le-length (λ c. not (is_close c)) floor))
+
+pub logged_empty : (worker : WorkerState) → worker.log ≡ [] → Logged worker []
+logged_empty worker e = record {
+  long = ap length e;
+  each = λ at s f hs hf. absurd (none_there f at hf);
+  rises = λ i j a b less hs ht. absurd (none_there a i (ap (λ xs. slice_get xs i) (sym e) ∙ hs));
+}
+  where
+    none_there : {A : Type 0} (x : A) (k : ℕ) → slice_get [] k ≡ Some x → ⊥
+    none_there x k h = cc (h)

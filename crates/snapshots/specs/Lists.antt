@@ -1,5 +1,5 @@
 -- Lists of published changes, and what a later list must cover. This project's own.
-use Rattle.std.specs.Prelude.{◌≡◌, Bool, not, List, [], ◌∷◌, ◌++◌}
+use Rattle.std.specs.Prelude.{◌≡◌, Bool, true, not, List, [], ◌∷◌, ◌++◌}
 use Rattle.std.specs.List.{list_any}
 use mathlib.Core.List.{IsPrefix}
 use Rattle.logbook.specs.Pages.{Book}
@@ -14,6 +14,12 @@ Identity = Book
 -- no change closes the list
 abbrev pub is_open : List Change → Bool
 is_open list = not (list_any is_close list)
+
+-- the last change closes the list, and no other does
+pub record IsClosed (list : List Change) : Type 0 where
+  pub before : List Change
+  pub still_open : is_open before ≡ true
+  pub is : list ≡ before ++ Close ∷ []
 
 -- no change follows the one that closes the list
 abbrev pub ClosesLast : List Change → Type 0

@@ -4,7 +4,7 @@ ghost use Rattle.std.specs.Prelude.{◌≡◌, ◌++◌, ◌∷◌, [], MatchRes
 ghost use Rattle.ff_headers.specs.Changes.{is_close};
 ghost use Rattle.ff_headers.specs.declared.change.Change.TheVariants.{Close};
 ghost use Rattle.snapshots.specs.Ends.{told_by, with_list};
-ghost use Rattle.snapshots.specs.Lists.{is_open};
+ghost use Rattle.snapshots.specs.Lists.{is_open, IsClosed};
 
 use crate::published::Published;
 use crate::told::Told;
@@ -38,10 +38,13 @@ pub struct Closed {
 
 impl Model for Closed {
     ghost use Rattle.snapshots.specs.Ends.{EndState};
+    ghost use Rattle.snapshots.specs.Lists.{IsClosed};
 
     ghost Value = { EndState };
 
     ghost view = { λ c. c.published };
+
+    ghost invariant = { λ c. IsClosed c.published.list };
 }
 
 impl AdminEnd {
@@ -88,6 +91,7 @@ impl AdminEnd {
     pub fn tell(&mut self) -> Told
         ensures told { result ≡ told_by self.old }
         ensures same { self.new ≡ self.old }
+        ensures open { is_open self.old.list ≡ true }
     {
         self.published.tell()
     }
@@ -104,6 +108,7 @@ impl Closed {
     pub fn tell(&mut self) -> Told
         ensures told { result ≡ told_by self.old }
         ensures same { self.new ≡ self.old }
+        ensures closed { IsClosed self.old.list }
     {
         self.published.tell()
     }

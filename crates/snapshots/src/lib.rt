@@ -11,8 +11,9 @@
 //! That `left_right` lets a reader in is not promised: [`PairDoor`] counts each refusal.
 //!
 //! In specs/, `Lists` says what lists of changes are and what covers a floor, `Reads` what one read gives, `Ends` and
-//! `Workers` what contracts see of both sides, with when a log is Logged. `Law`, `Trails`, `Copying`, `Seats`,
-//! `FloorSteps` and `Doors` are what the parts keep.
+//! `Workers` what contracts see of both sides, with when a log is Logged, and `Fresh` what `open` gives; the laws that
+//! stand on no other call are those of `laws`. `Law`, `Trails`, `Copying`, `Seats`, `FloorSteps`, `Logs` and `Doors` are
+//! what the parts keep.
 #![tactic(auto)]
 
 mod copied;
@@ -21,6 +22,7 @@ mod ends;
 mod floors;
 mod held;
 mod law;
+pub mod laws;
 mod opening;
 mod pen;
 mod published;

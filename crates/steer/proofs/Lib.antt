@@ -1,5 +1,16 @@
 mod Examples
-pub mod PieceLemmas
+mod LiveExamples
+pub mod AdminLemmas
+pub mod CarryLemmas
 pub mod ChainLemmas
-pub mod RoundLemmas
+pub mod LegalRuns
+pub mod LiveCommandLemmas
+pub mod LiveLemmas
+pub mod MergeLemmas
+pub mod OpenLists
+pub mod PieceLemmas
 pub mod QueueLemmas
+pub mod ReadLemmas
+pub mod RoundLemmas
+pub mod RowLemmas
+pub mod ShareLemmas

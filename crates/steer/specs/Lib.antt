@@ -1,4 +1,11 @@
+pub mod AdminSides
 pub mod BenchPlaces
 pub mod BenchState
 pub mod HeldCommands
+pub mod LiveCommands
+pub mod LivePhases
+pub mod LiveRuns
+pub mod LiveSteps
+pub mod Results
 pub mod Rounds
+pub mod Shares

@@ -22,6 +22,8 @@ mod maps;
 #[cfg(test)]
 mod numbers;
 #[cfg(test)]
+mod published;
+#[cfg(test)]
 mod run;
 #[cfg(test)]
 mod store;
