@@ -1,5 +1,7 @@
 mod AnswerLemmas
+mod CaptureInputs
 mod CompiledLines
+mod DeliveryLemmas
 mod DrainLemmas
 mod DrainRows
 mod EndingLemmas
@@ -8,6 +10,7 @@ mod GrammarLemmas
 mod InputLemmas
 mod ItemBounds
 mod PacketLemmas
+mod ProgramLemmas
 mod QueuePlaced
 mod ReplayLemmas
 mod Rows
@@ -15,8 +18,10 @@ mod ScriptReadBack
 mod SelectLemmas
 mod SentCommands
 mod SpelledLines
+mod SteerLemmas
 mod TableInputLemmas
 mod TableRows
+mod TallyLemmas
 mod TextLines
 mod WordReadBack
 mod WrittenScripts
