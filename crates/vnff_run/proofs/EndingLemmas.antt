@@ -16,29 +16,33 @@ use Rattle.vnff_run.proofs.InputLemmas.{some_then}
 pub wrote_none : (old new : OutputState) (text : List ℕ) → new.told ≡ old.told → AppendedFront old new text
 wrote_none old new text same = (0, same ∙ sym (told_after-nil old.told))
 
+-- what holds of all files holds of those that are told
+pub where_told : {P : Files → Type 0} (told : Option Files) → ((files : Files) → P files) → IfSome told P
+where_told None all = tt
+where_told (Some files) all = all files
+
 -- where the input can't be read, nothing else was done
 pub form_stops : {A : Type 0} (shelf shelf_new : ShelfState) (out out_new : OutputState) (input : Files → Result A InputFault) (run : A → Outcome) (stop : Stop) → ReadStops shelf shelf_new input stop → IsUntouched out out_new → FormStops shelf shelf_new out out_new (λ files. outcome_with run (input files)) stop
 form_stops shelf shelf_new out out_new input run stops.ReadFault why left =
     (left, ⊎_elim inl (λ missing. inr (some_then shelf.files missing (λ files is. ap (outcome_with run) is))) why)
 form_stops shelf shelf_new out out_new input run (stops.Refused refused) why left =
-    (left, IfSome_then shelf.files why.1 (λ files is. ap (outcome_with run) is))
+    (why.0, left, IfSome_then shelf.files why.1 (λ files is. ap (outcome_with run) is))
 form_stops shelf shelf_new out out_new input run stops.AlreadyRefused why left = absurd why
 form_stops shelf shelf_new out out_new input run stops.WriteFault why left = absurd why
+form_stops shelf shelf_new out out_new input run stops.SinkFault why left = absurd why
 form_stops shelf shelf_new out out_new input run stops.Memory why left =
-    (why, left.1, if_told shelf.files (λ files. wrote_none out out_new (outcome_with run (input files)).text left.0)) where
-      if_told : {P : Files → Type 0} (told : Option Files) → ((files : Files) → P files) → IfSome told P
-      if_told None all = tt
-      if_told (Some files) all = all files
+    (why, left.1, where_told shelf.files (λ files. wrote_none out out_new (outcome_with run (input files)).text left.0))
 
 -- an input that was read is done with
 pub form_runs : {A B : Type 0} (shelf shelf_new : ShelfState) (out out_new : OutputState) (input : Files → Result A InputFault) (run : A → Outcome) (value : A) (result : Result B Stop) → ReadsInput shelf shelf_new input (Ok value) → RunsAs out out_new (run value) result → FormEnds shelf shelf_new out out_new (λ files. outcome_with run (input files)) result
 form_runs shelf shelf_new out out_new input run value (Ok x) read ran =
-    IfSome_then shelf.files read.1 (λ files is. subst (IsDone out out_new) (sym (ap (outcome_with run) is)) ran)
+    (read.0, ran.1.faults, IfSome_then shelf.files read.1 (λ files is. subst (IsDone out out_new) (sym (ap (outcome_with run) is)) ran))
 form_runs shelf shelf_new out out_new input run value (Err stops.ReadFault) read ran = absurd ran
 form_runs shelf shelf_new out out_new input run value (Err (stops.Refused refused)) read ran = absurd ran
 form_runs shelf shelf_new out out_new input run value (Err stops.AlreadyRefused) read ran =
-    IfSome_then shelf.files read.1 (λ files is. subst (IsRefusedBehind out out_new) (sym (ap (outcome_with run) is)) ran)
+    (read.0, ran.1.faults, IfSome_then shelf.files read.1 (λ files is. subst (IsRefusedBehind out out_new) (sym (ap (outcome_with run) is)) ran))
 form_runs shelf shelf_new out out_new input run value (Err stops.WriteFault) read ran =
-    (ran.rose, IfSome_then shelf.files read.1 (λ files is. subst (λ (o : Outcome). AppendedFront out out_new o.text) (sym (ap (outcome_with run) is)) ran.told))
+    (read.0, ran.rose, IfSome_then shelf.files read.1 (λ files is. subst (λ (o : Outcome). AppendedFront out out_new o.text) (sym (ap (outcome_with run) is)) ran.told))
+form_runs shelf shelf_new out out_new input run value (Err stops.SinkFault) read ran = absurd ran
 form_runs shelf shelf_new out out_new input run value (Err stops.Memory) read ran =
     (read.0, ran.0, IfSome_then shelf.files read.1 (λ files is. subst (λ (o : Outcome). AppendedFront out out_new o.text) (sym (ap (outcome_with run) is)) ran.1))

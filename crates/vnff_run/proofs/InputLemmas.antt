@@ -32,6 +32,7 @@ read_stops shelf shelf_new part next (stops.Refused input) why =
     (why.0, IfSome_then shelf.files why.1 (λ files is. ap (λ p. p >>= next files) is))
 read_stops shelf shelf_new part next stops.AlreadyRefused why = why
 read_stops shelf shelf_new part next stops.WriteFault why = why
+read_stops shelf shelf_new part next stops.SinkFault why = why
 read_stops shelf shelf_new part next stops.Memory why = why
 
 -- the bytes of a file are a script

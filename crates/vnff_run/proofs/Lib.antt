@@ -1,5 +1,7 @@
 mod AnswerLemmas
+mod CaptureInputs
 mod CompiledLines
+mod DeliveryLemmas
 mod DrainLemmas
 mod DrainRows
 mod EndingLemmas
@@ -10,6 +12,7 @@ mod ItemBounds
 mod LoadLemmas
 mod LoadRows
 mod PacketLemmas
+mod ProgramLemmas
 mod QueuePlaced
 mod ReplayLemmas
 mod Rows
@@ -17,8 +20,10 @@ mod ScriptReadBack
 mod SelectLemmas
 mod SentCommands
 mod SpelledLines
+mod SteerLemmas
 mod TableInputLemmas
 mod TableRows
+mod TallyLemmas
 mod TextLines
 mod WordReadBack
 mod WrittenScripts

@@ -107,3 +107,4 @@ load_stops seed caps table (stops.Refused refusal) its_caps its_table why =
 load_stops seed caps table stops.ReadFault its_caps its_table why = absurd why
 load_stops seed caps table stops.AlreadyRefused its_caps its_table why = absurd why
 load_stops seed caps table stops.WriteFault its_caps its_table why = absurd why
+load_stops seed caps table stops.SinkFault its_caps its_table why = absurd why

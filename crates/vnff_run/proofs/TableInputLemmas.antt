@@ -27,6 +27,7 @@ read_judged shelf read part next value (Err (stops.Refused refusal)) was judged 
     (was.0, IfSome_then shelf.files was.1 (λ files is. ap (λ p. p >>= next) is ∙ judged))
 read_judged shelf read part next value (Err stops.AlreadyRefused) was judged = absurd judged
 read_judged shelf read part next value (Err stops.WriteFault) was judged = absurd judged
+read_judged shelf read part next value (Err stops.SinkFault) was judged = absurd judged
 read_judged shelf read part next value (Err stops.Memory) was judged = was.0
 
 -- what holds of the told files before and behind a part
@@ -50,6 +51,7 @@ read_then shelf middle read part next value (Err (stops.Refused refusal)) was sa
     (then.0 ∙ was.0, both_told shelf.files was.1 (subst (λ o. IfSome o (λ files. next value files ≡ Err (Refused refusal))) same then.1) (λ files is more. ap (λ p. p >>= λ x. next x files) is ∙ more))
 read_then shelf middle read part next value (Err stops.AlreadyRefused) was same then = absurd then
 read_then shelf middle read part next value (Err stops.WriteFault) was same then = absurd then
+read_then shelf middle read part next value (Err stops.SinkFault) was same then = absurd then
 read_then shelf middle read part next value (Err stops.Memory) was same then = then ∙ was.0
 
 -- why a table can't be compiled ends a form with its refusal, unless memory ran out

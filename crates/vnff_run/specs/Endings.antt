@@ -61,6 +61,7 @@ ReadStops old new input (stops.Refused refusal) =
     NoReadFailed old new × IfSome old.files (λ files. input files ≡ Err (Refused refusal))
 ReadStops old new input stops.AlreadyRefused = ⊥
 ReadStops old new input stops.WriteFault = ⊥
+ReadStops old new input stops.SinkFault = ⊥
 ReadStops old new input stops.Memory = NoReadFailed old new
 
 -- A call that reads an input gives what the files have, where the shelf tells them, or stops.
@@ -100,25 +101,31 @@ abbrev pub RunsAs : {A : Type 0} → OutputState → OutputState → Outcome →
 RunsAs old new outcome (Ok _) = IsDone old new outcome
 RunsAs old new outcome (Err stop) = RunStops old new outcome stop
 
--- Why a form stopped. Of what is refused the line is not yet written, but for a refusal behind what was written.
+-- Why a form stopped that calls no sink. Of what is refused the line is not yet written, but for a refusal behind what
+-- was written.
 abbrev pub FormStops : ShelfState → ShelfState → OutputState → OutputState → (Files → Outcome) → Stop → Type 0
 FormStops shelf shelf_new out out_new outcome stops.ReadFault =
     IsUntouched out out_new
     × (ReadFailed shelf shelf_new ⊎ IsSomeAnd shelf.files (λ files. outcome files ≡ fault_outcome Missing))
 FormStops shelf shelf_new out out_new outcome (stops.Refused refusal) =
-    IsUntouched out out_new × WhereTold shelf outcome (λ end. end ≡ fault_outcome (Refused refusal))
+    NoReadFailed shelf shelf_new × IsUntouched out out_new
+    × WhereTold shelf outcome (λ end. end ≡ fault_outcome (Refused refusal))
 FormStops shelf shelf_new out out_new outcome stops.AlreadyRefused =
-    WhereTold shelf outcome (λ end. IsRefusedBehind out out_new end)
+    NoReadFailed shelf shelf_new × NoWriteFailed out out_new
+    × WhereTold shelf outcome (λ end. IsRefusedBehind out out_new end)
 FormStops shelf shelf_new out out_new outcome stops.WriteFault =
-    WriteFailed out out_new × WhereTold shelf outcome (λ end. AppendedFront out out_new end.text)
+    NoReadFailed shelf shelf_new × WriteFailed out out_new
+    × WhereTold shelf outcome (λ end. AppendedFront out out_new end.text)
+FormStops shelf shelf_new out out_new outcome stops.SinkFault = ⊥
 FormStops shelf shelf_new out out_new outcome stops.Memory =
     NoReadFailed shelf shelf_new × NoWriteFailed out out_new
     × WhereTold shelf outcome (λ end. AppendedFront out out_new end.text)
 
--- A form is carried out with status 0, or stops.
+-- A form that calls no sink is carried out with status 0, or stops.
 abbrev pub FormEnds : {A : Type 0} → ShelfState → ShelfState → OutputState → OutputState
     → (Files → Outcome) → Result A Stop → Type 0
-FormEnds shelf shelf_new out out_new outcome (Ok _) = WhereTold shelf outcome (λ end. IsDone out out_new end)
+FormEnds shelf shelf_new out out_new outcome (Ok _) =
+    NoReadFailed shelf shelf_new × NoWriteFailed out out_new × WhereTold shelf outcome (λ end. IsDone out out_new end)
 FormEnds shelf shelf_new out out_new outcome (Err stop) = FormStops shelf shelf_new out out_new outcome stop
 
 -- The line of a refusal was written, with its status; or a write failed within it.
@@ -133,6 +140,7 @@ IsStatusOfStop old new stops.ReadFault status = (status ≡ read_status) × IsUn
 IsStatusOfStop old new (stops.Refused input) status = WritesRefusal old new input status
 IsStatusOfStop old new stops.AlreadyRefused status = (status ≡ refused_status) × IsUntouched old new
 IsStatusOfStop old new stops.WriteFault status = (status ≡ write_status) × IsUntouched old new
+IsStatusOfStop old new stops.SinkFault status = (status ≡ write_status) × IsUntouched old new
 IsStatusOfStop old new stops.Memory status = (status ≡ memory_status) × IsUntouched old new
 
 -- The status of a form that was carried out, or stopped.

@@ -14,6 +14,7 @@ pub data WordForm : Type 0 where
   Drain : (image : List ℕ) → (place : Place) → WordForm
   Compile : (device table : List ℕ) → WordForm
   Table : (device table capture : List ℕ) → WordForm
+  Steer : (script capture : List ℕ) → WordForm
   Gen : (seed frames : ℕ) → WordForm
 
 -- a load of a seed, where both words spell their numbers
@@ -25,13 +26,14 @@ load_with _ _ = None
 unfoldable pub load_of : List ℕ → List ℕ → Option WordForm
 load_of seed frames = load_with (number_of seed) (frame_count_of frames)
 
--- the form of the words: `replay SCRIPT`, `gen SEED N`, `compile DEVICE TABLE`, `table DEVICE TABLE CAPTURE` or `drain IMAGE
--- SIZE DESC AVAIL USED`
+-- the form of the words: `replay SCRIPT`, `gen SEED N`, `compile DEVICE TABLE`, `steer SCRIPT CAPTURE`, `table DEVICE TABLE
+-- CAPTURE` or `drain IMAGE SIZE DESC AVAIL USED`
 unfoldable pub form_of : List (List ℕ) → Option WordForm
 form_of (form ∷ script ∷ []) = if bytes_eq form (codes "replay") then Some (Replay script) else None
 form_of (form ∷ first ∷ second ∷ []) =
     if bytes_eq form (codes "gen") then load_of first second
     else if bytes_eq form (codes "compile") then Some (Compile first second)
+    else if bytes_eq form (codes "steer") then Some (Steer first second)
     else None
 form_of (form ∷ device ∷ table ∷ capture ∷ []) =
     if bytes_eq form (codes "table") then Some (Table device table capture) else None
@@ -45,4 +47,5 @@ form_view (forms.Replay script) = Replay script.now
 form_view (forms.Drain image place) = Drain image.now place
 form_view (forms.Compile device table) = Compile device.now table.now
 form_view (forms.Table device table capture) = Table device.now table.now capture.now
+form_view (forms.Steer script capture) = Steer script.now capture.now
 form_view (forms.Gen seed frames) = Gen seed frames

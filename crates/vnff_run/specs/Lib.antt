@@ -1,4 +1,5 @@
 pub mod CompileTexts
+pub mod Deliveries
 pub mod DeviceFiles
 pub mod DeviceLines
 pub mod Drain
@@ -18,7 +19,11 @@ pub mod Results
 pub mod ScriptTexts
 pub mod SelectLines
 pub mod Spellable
+pub mod SteerEndings
+pub mod SteerInputs
+pub mod Steering
 pub mod TableInputs
 pub mod TableRefusals
 pub mod Tables
+pub mod Tallies
 pub mod Words

@@ -5,10 +5,12 @@ use Rattle.split_queue.specs.declared.queue_place.Place.{Place}
 use Rattle.vnff_run.specs.Drain.{drain_last, drain_text, setup_word}
 use Rattle.vnff_run.specs.Inputs.{InputFault, Missing, Refused, queue_in, script_in}
 use Rattle.vnff_run.specs.Replay.{replay_text, line_feed}
+use Rattle.vnff_run.specs.SteerInputs.{steer_input_in}
+use Rattle.vnff_run.specs.Steering.{steer_text, steering_for}
 use Rattle.vnff_run.specs.declared.drain.Last.{Last}
 use Rattle.vnff_run.specs.declared.drain.Last.TheVariants.{Empty, Faulty}
 use Rattle.vnff_run.specs.CompileTexts.{compile_text}
-use Rattle.vnff_run.specs.Forms.{WordForm, Replay, Compile, Table, Drain, Gen, form_of}
+use Rattle.vnff_run.specs.Forms.{WordForm, Replay, Compile, Table, Drain, Steer, Gen, form_of}
 use Rattle.vnff_run.specs.Loads.{gen_text}
 use Rattle.vnff_run.specs.TableInputs.{compiled_in, table_run_in}
 use Rattle.vnff_run.specs.TableRefusals.{capture_words, limit_words, table_reason_word, unsupported_words}
@@ -37,7 +39,7 @@ words_status = 2
 abbrev pub read_status : ℕ
 read_status = 3
 
--- a write failed
+-- a write or a sink failed
 abbrev pub write_status : ℕ
 write_status = 4
 
@@ -123,6 +125,8 @@ outcome_in (Compile device table) files =
     outcome_with (λ run. done_outcome (compile_text run)) (compiled_in device table files)
 outcome_in (Table device table capture) files =
     outcome_with (λ run. done_outcome (table_text run.0.table run.1)) (table_run_in device table capture files)
+outcome_in (Steer script capture) files =
+    outcome_with (λ input. done_outcome (steer_text (steering_for input))) (steer_input_in script capture files)
 outcome_in (Gen seed frames) files = done_outcome (gen_text seed frames)
 
 -- the outcome of what may be a form

@@ -5,6 +5,8 @@ use Rattle.ff_headers.specs.SelectorParts.{SelectorParts}
 use Rattle.admin_wire.specs.Layouts.{command_bytes}
 use Rattle.admin_wire.specs.declared.command.Command.{Command}
 use Rattle.cap_table.specs.Caps.{CapsParts}
+use Rattle.capture.specs.declared.error.CaptureReadErr.{CaptureReadErr}
+use Rattle.capture.specs.declared.error.CaptureReadErr.TheVariants as reads
 use Rattle.ntuple_text.specs.declared.error.TextErr.{TextErr}
 use Rattle.ntuple_text.specs.declared.error.TextErr.TheVariants as text
 use Rattle.ntuple_text.specs.declared.spec.Spec.{Spec}
@@ -18,7 +20,8 @@ use Rattle.vnff_run.specs.TableInputs.{compile_fault, table_fault}
 use Rattle.vnff_run.specs.declared.compiled.CompiledTable.{CompiledTable}
 use Rattle.vnff_run.specs.declared.script.ScriptFault.{ScriptFault}
 use Rattle.vnff_run.specs.declared.script.ScriptFault.TheVariants as faults
-use Rattle.vnff_run.specs.declared.stop.RefusedInput.TheVariants.{BadDevice}
+use Rattle.vnff_run.specs.declared.stop.FileKind.TheVariants as kinds
+use Rattle.vnff_run.specs.declared.stop.RefusedInput.TheVariants.{BadCapture, BadDevice, TooLong}
 use Rattle.vnff_run.specs.declared.stop.Stop.{Stop}
 use Rattle.vnff_run.specs.declared.stop.Stop.TheVariants as stops
 
@@ -55,6 +58,13 @@ table_stop err = fault_stop (table_fault err)
 abbrev pub compile_stop : CompileErr → Stop
 compile_stop errors.Memory = stops.Memory
 compile_stop err = fault_stop (compile_fault err)
+
+-- why a capture can't be read, or that memory ran out
+abbrev pub capture_stop : CaptureReadErr → Stop
+capture_stop reads.ReadFault = stops.ReadFault
+capture_stop reads.TooLong = stops.Refused (TooLong kinds.Capture)
+capture_stop (reads.Bad fault) = stops.Refused (BadCapture fault)
+capture_stop reads.Memory = stops.Memory
 
 -- ---- texts
 

@@ -1,25 +1,24 @@
-//! Tables that are compiled for a device, read from the files of both; and captures.
+//! Tables that are compiled for a device, read from the files of both.
 
 ghost use Rattle.std.specs.Prelude.{◌≡◌, ◌≤◌, length, IfOk};
 ghost use Rattle.vnff_base.specs.Lines.{word_lines};
-ghost use Rattle.capture.specs.Captures.{capture_of};
 ghost use Rattle.ntuple_compile.specs.Compiled.{compiled};
 ghost use Rattle.ntuple_text.specs.TableLines.{table_of};
 ghost use Rattle.vnff_run.specs.DeviceFiles.{device_file_of};
 ghost use Rattle.vnff_run.specs.Endings.{Judges, ReadsInput};
 ghost use Rattle.vnff_run.specs.Inputs.{file_limit};
 ghost use Rattle.vnff_run.specs.TableInputs.{caps_in, caps_or_refusal, compiled_for, compiled_in};
-ghost use Rattle.vnff_run.specs.TableInputs.{frames_in, frames_or_refusal, table_in, table_or_refusal, table_run_in};
+ghost use Rattle.vnff_run.specs.TableInputs.{table_in, table_or_refusal, table_run_in};
 ghost use Rattle.vnff_run.specs.Programs.{IsProgrammable, compile_stop, device_stop, table_stop};
 
-use crate::file::bytes_in;
+use crate::file::{bytes_in, frames_in};
 use crate::grammar::read_device_file;
 use crate::script::{Script, ScriptFault};
 use crate::stop::{FileKind, RefusedInput, Stop};
 use crate::table_refusal::{TableLimit, TableReason};
 use admin_wire::Command;
 use cap_table::DeviceCaps;
-use capture::{Frames, FramesErr, read_frames};
+use capture::Frames;
 use ntuple_compile::{CompileErr, compile};
 use ntuple_text::{Table, TextErr, read_table};
 use std::alloc::Global;
@@ -142,25 +141,6 @@ pub(crate) fn compiled_for(
             commands,
         }),
         Err(err) => Err(compile_stop(err)),
-    }
-}
-
-/// The frames of the capture in a file.
-fn frames_in<S: Shelf>(alloc: Global, name: &str, shelf: &mut S) -> Result<Frames, Stop>
-    ensures { ReadsInput (S.state shelf.old) (S.state shelf.new) (frames_in name.now) result }
-{
-    let bytes = bytes_in(alloc, FileKind::Capture, name, shelf)?;
-    frames_of(alloc, bytes.as_slice())
-}
-
-/// The frames of the capture that these bytes are.
-fn frames_of(alloc: Global, bytes: &[u8]) -> Result<Frames, Stop>
-    ensures { Judges (frames_or_refusal (capture_of bytes.now)) result }
-{
-    match read_frames(alloc, bytes) {
-        Ok(frames) => Ok(frames),
-        Err(FramesErr::Bad(fault)) => Err(Stop::Refused(RefusedInput::BadCapture(fault))),
-        Err(FramesErr::Memory) => Err(Stop::Memory),
     }
 }
 

@@ -26,7 +26,7 @@ pub const FAULTY_WORDS: u8 = 2;
 /// The exit status where a read failed.
 pub const READ_FAULT: u8 = 3;
 
-/// The exit status where a write failed.
+/// The exit status where a write or a sink failed.
 pub const WRITE_FAULT: u8 = 4;
 
 /// The exit status where memory ran out.
@@ -41,7 +41,7 @@ pub fn exit_status<O: Out>(ended: Result<(), Stop>, out: &mut O) -> u8
         Err(Stop::ReadFault) => READ_FAULT,
         Err(Stop::Refused(input)) => refuse(input, out),
         Err(Stop::AlreadyRefused) => REFUSED,
-        Err(Stop::WriteFault) => WRITE_FAULT,
+        Err(Stop::WriteFault | Stop::SinkFault) => WRITE_FAULT,
         Err(Stop::Memory) => NO_MEMORY,
     }
 }

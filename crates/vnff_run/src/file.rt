@@ -3,11 +3,14 @@
 ghost use Rattle.std.specs.Prelude.{◌≡◌, ◌≤◌, All, length, IfOk};
 ghost use Rattle.vnff_run.specs.Endings.{ReadsInput};
 ghost use Rattle.vnff_run.specs.Inputs.{bytes_in, file_limit, script_in};
-ghost use Rattle.vnff_run.specs.ItemLines.{IsWithin};
+ghost use Rattle.vnff_run.specs.ItemLines.{IsWithin, most_frame};
+ghost use Rattle.vnff_run.specs.Programs.{capture_stop};
+ghost use Rattle.vnff_run.specs.TableInputs.{frames_in};
 
 use crate::grammar::read_script;
 use crate::script::Script;
 use crate::stop::{FileKind, RefusedInput, Stop};
+use capture::{CaptureReadErr, Frames, read_capture};
 use std::alloc::Global;
 use vnff_base::{List, ReadErr, Shelf, read_all};
 
@@ -41,4 +44,32 @@ pub fn script_in<S: Shelf>(alloc: Global, name: &str, shelf: &mut S) -> Result<S
 {
     let bytes = bytes_in(alloc, FileKind::Script, name, shelf)?;
     Ok(read_script(alloc, bytes.as_slice())?)
+}
+
+/// The frames of the capture in a file, which is never held whole.
+pub(crate) fn frames_in<S: Shelf>(
+    alloc: Global,
+    name: &str,
+    shelf: &mut S,
+) -> Result<Frames, Stop>
+    ensures read { ReadsInput (S.state shelf.old) (S.state shelf.new) (frames_in name.now) result }
+    ensures short { IfOk result (All (λ frame. length frame ≤ most_frame)) }
+    ensures same_files { (S.state shelf.new).files ≡ (S.state shelf.old).files }
+{
+    match read_capture(alloc, shelf, name, FILE_LIMIT) {
+        Ok(frames) => Ok(frames),
+        Err(fault) => Err(capture_stop(fault)),
+    }
+}
+
+/// What a capture ends a form with that can't be read.
+fn capture_stop(fault: CaptureReadErr) -> Stop
+    ensures { result ≡ capture_stop fault }
+{
+    match fault {
+        CaptureReadErr::ReadFault => Stop::ReadFault,
+        CaptureReadErr::TooLong => Stop::Refused(RefusedInput::TooLong(FileKind::Capture)),
+        CaptureReadErr::Bad(fault) => Stop::Refused(RefusedInput::BadCapture(fault)),
+        CaptureReadErr::Memory => Stop::Memory,
+    }
 }

@@ -5,6 +5,7 @@ ghost use Rattle.std.specs.Prelude.{codes, Some, None, if◌then◌else◌};
 ghost use Rattle.std.specs.Str.{bytes_eq};
 ghost use Rattle.vnff_run.specs.Forms.{form_of, form_view, load_of};
 ghost use Rattle.vnff_run.specs.Forms.{Replay as WordReplay, Compile as WordCompile, Table as WordTable};
+ghost use Rattle.vnff_run.specs.Forms.{Steer as WordSteer};
 
 use crate::drain_words::place_of;
 use crate::load_words::frame_count_of;
@@ -22,6 +23,8 @@ pub enum Form<'a> {
     Compile(&'a str, &'a str),
     /// `table DEVICE TABLE CAPTURE`: compile a table for a device, and classify the frames of a capture.
     Table(&'a str, &'a str, &'a str),
+    /// `steer SCRIPT CAPTURE`: hand each frame of a capture to the sink of its queue, behind a script's commands.
+    Steer(&'a str, &'a str),
     /// `gen SEED N`: classify so many frames of a seed by the table of this seed.
     Gen(u64, u32),
 }
@@ -36,7 +39,7 @@ pub fn form_of(words: &[String]) -> Option<Form<'_>>
         [form, seed, frames] if form.as_str() == "gen" => {
             load_of(seed.as_bytes(), frames.as_bytes())
         }
-        [form, device, table] => two_files(form.as_str(), device.as_str(), table.as_str()),
+        [form, first, second] => two_files(form.as_str(), first.as_str(), second.as_str()),
         [form, device, table, capture] => three_files(
             form.as_str(),
             device.as_str(),
@@ -79,12 +82,16 @@ fn load_of<'a>(seed: &[u8], frames: &[u8]) -> Option<Form<'a>>
 }
 
 /// The form of a word and two files.
-fn two_files<'a>(form: &str, device: &'a str, table: &'a str) -> Option<Form<'a>>
+fn two_files<'a>(form: &str, first: &'a str, second: &'a str) -> Option<Form<'a>>
     ensures { option_map form_view result
-        ≡ if bytes_eq form.now (codes "compile") then Some (WordCompile device.now table.now) else None }
+        ≡ if bytes_eq form.now (codes "compile") then Some (WordCompile first.now second.now)
+          else if bytes_eq form.now (codes "steer") then Some (WordSteer first.now second.now)
+          else None }
 {
     if form == "compile" {
-        Some(Form::Compile(device, table))
+        Some(Form::Compile(first, second))
+    } else if form == "steer" {
+        Some(Form::Steer(first, second))
     } else {
         None
     }

@@ -1,10 +1,13 @@
 //! The program's call: words in, files read, a text written, and a status.
 
-ghost use Rattle.std.specs.Prelude.{◌≡◌, ◌≤◌, ◌⊎◌, ◌↔◌, None, IsSomeAnd, map, string_bytes};
-ghost use Rattle.vnff_run.specs.Endings.{FormEnds, Appended, AppendedFront, AppendedNothing, NoReadFailed, NoWriteFailed};
+ghost use Rattle.std.specs.Prelude.{◌≡◌, ◌≢◌, ◌≤◌, ◌⊎◌, ◌↔◌, None, IfSome, IsSomeAnd, MatchOption, false, length, map, string_bytes, true};
+ghost use Rattle.vnff_run.specs.Endings.{Appended, AppendedFront, AppendedNothing, NoReadFailed, NoWriteFailed};
 ghost use Rattle.vnff_run.specs.Endings.{ReadFailed, WhereTold, WriteFailed};
 ghost use Rattle.vnff_run.specs.Forms.{form_of, form_view};
-ghost use Rattle.vnff_run.specs.Outcomes.{outcome_in, outcome_of};
+ghost use Rattle.vnff_run.specs.Outcomes.{outcome_of};
+ghost use Rattle.vnff_run.specs.SteerEndings.{FormDoes, SinkFailed};
+ghost use Rattle.vnff_run.specs.SteerInputs.{is_steer, steering_of};
+ghost use Rattle.vnff_run.specs.Steering.{Steered};
 
 use crate::compile::compile_table;
 use crate::drain::drain;
@@ -12,16 +15,26 @@ use crate::ending::{FAULTY_WORDS, exit_status};
 use crate::form::{Form, form_of};
 use crate::load::sum_up_load;
 use crate::replay::replay;
+use crate::steering::steer_frames;
 use crate::stop::Stop;
 use crate::table::classify_by_table;
+use rx_sinks::{Rack, SinkList};
 use std::alloc::Global;
 use vnff_base::{Out, Shelf};
 
 /// Runs the program on its words, without its own name, and gives its exit status: 0 done, 1 an input was refused, 2
 /// the words are no form, 3 a read failed, 4 a write failed, 5 memory ran out. The forms that are built:
-/// `replay SCRIPT`, `gen SEED N`, `compile DEVICE TABLE`, `table DEVICE TABLE CAPTURE` and `drain IMAGE SIZE DESC AVAIL
-/// USED`.
-pub fn plain<S: Shelf, O: Out>(alloc: Global, words: &[String], shelf: &mut S, out: &mut O) -> u8
+/// `replay SCRIPT`, `gen SEED N`, `compile DEVICE TABLE`, `steer SCRIPT CAPTURE`, `table DEVICE TABLE CAPTURE` and `drain
+/// IMAGE SIZE DESC AVAIL USED`.
+pub fn plain<S: Shelf, O: Out>(
+    alloc: Global,
+    words: &[String],
+    shelf: &mut S,
+    out: &mut O,
+    rack: &mut Rack,
+) -> u8
+    // A sink for each receive queue.
+    requires { length (⟦<Rack as SinkList>⟧.sinks rack.old) ≡ 16 }
     ensures known { result ≤ 5 }
 
     // The words alone decide on 2.
@@ -33,30 +46,47 @@ pub fn plain<S: Shelf, O: Out>(alloc: Global, words: &[String], shelf: &mut S, o
     ensures done { result ≤ 2 → WhereTold (S.state shelf.old) (outcome_of (map string_bytes words.now)) (λ end.
         (result ≡ end.status) × Appended (O.state out.old) (O.state out.new) end.text) }
 
-    // What is to be done is done, and what is to be refused is refused, unless a read or a write failed, or memory ran
-    // out.
+    // What is to be done is done, and what is to be refused is refused, unless a read, a write or a sink failed, or
+    // memory ran out.
     ensures complete { WhereTold (S.state shelf.old) (outcome_of (map string_bytes words.now)) (λ end.
         (result ≡ end.status) ⊎ (result ≡ 5)
-        ⊎ ReadFailed (S.state shelf.old) (S.state shelf.new) ⊎ WriteFailed (O.state out.old) (O.state out.new)) }
+        ⊎ ReadFailed (S.state shelf.old) (S.state shelf.new) ⊎ WriteFailed (O.state out.old) (O.state out.new)
+        ⊎ SinkFailed (S.state shelf.old) (steering_of (map string_bytes words.now))
+            (⟦<Rack as SinkList>⟧.sinks rack.old) (⟦<Rack as SinkList>⟧.sinks rack.new)) }
 
     // 3 is a failure of the shelf, or a file that isn't there, and then nothing was written.
     ensures read { result ≡ 3 → ReadFailed (S.state shelf.old) (S.state shelf.new)
         ⊎ IsSomeAnd (S.state shelf.old).files (λ files. (outcome_of (map string_bytes words.now) files).status ≡ 3) }
     ensures read_nothing { result ≡ 3 → AppendedNothing (O.state out.old) (O.state out.new) }
 
-    // 4 is a failure of the output.
-    ensures write { result ≡ 4 → WriteFailed (O.state out.old) (O.state out.new) }
+    // 4 is a failure of the output, or with `steer` of a sink, and then nothing was written.
+    ensures write { result ≡ 4 → WriteFailed (O.state out.old) (O.state out.new)
+        ⊎ (is_steer (form_of (map string_bytes words.now)) ≡ true)
+          × SinkFailed (S.state shelf.old) (steering_of (map string_bytes words.now))
+              (⟦<Rack as SinkList>⟧.sinks rack.old) (⟦<Rack as SinkList>⟧.sinks rack.new)
+          × AppendedNothing (O.state out.old) (O.state out.new) }
 
-    // 5 is no failure of the shelf or the output.
-    ensures memory { result ≡ 5
-        → NoReadFailed (S.state shelf.old) (S.state shelf.new) × NoWriteFailed (O.state out.old) (O.state out.new) }
+    // A failure of the shelf or the output is answered by 3 or 4, and never by another status.
+    ensures no_read { result ≢ 3 → NoReadFailed (S.state shelf.old) (S.state shelf.new) }
+    ensures no_write { result ≢ 4 → NoWriteFailed (O.state out.old) (O.state out.new) }
 
     // After 4 and 5 a front of the outcome's text was written.
     ensures front { 4 ≤ result → WhereTold (S.state shelf.old) (outcome_of (map string_bytes words.now)) (λ end.
         AppendedFront (O.state out.old) (O.state out.new) end.text) }
+
+    // Other words than those of `steer`, and 1, 2, 3 and 5, leave every sink.
+    ensures other_sinks { is_steer (form_of (map string_bytes words.now)) ≡ false
+        → ⟦<Rack as SinkList>⟧.sinks rack.new ≡ ⟦<Rack as SinkList>⟧.sinks rack.old }
+    ensures same_sinks { result ≢ 0 → result ≢ 4
+        → ⟦<Rack as SinkList>⟧.sinks rack.new ≡ ⟦<Rack as SinkList>⟧.sinks rack.old }
+
+    // Where there is something to steer, 0 and 4 say what the sinks got.
+    ensures sinks { IfSome (S.state shelf.old).files (λ files. MatchOption (steering_of (map string_bytes words.now) files)
+        (⟦<Rack as SinkList>⟧.sinks rack.new ≡ ⟦<Rack as SinkList>⟧.sinks rack.old)
+        (λ steering. Steered steering result (⟦<Rack as SinkList>⟧.sinks rack.old) (⟦<Rack as SinkList>⟧.sinks rack.new))) }
 {
     match form_of(words) {
-        Some(form) => exit_status(run(alloc, form, shelf, out), out),
+        Some(form) => exit_status(run(alloc, form, shelf, out, rack), out),
         None => FAULTY_WORDS,
     }
 }
@@ -67,9 +97,11 @@ fn run<S: Shelf, O: Out>(
     form: Form<'_>,
     shelf: &mut S,
     out: &mut O,
+    rack: &mut Rack,
 ) -> Result<(), Stop>
-    ensures { FormEnds (S.state shelf.old) (S.state shelf.new) (O.state out.old) (O.state out.new)
-        (outcome_in (form_view form.entry)) result }
+    requires { length (⟦<Rack as SinkList>⟧.sinks rack.old) ≡ 16 }
+    ensures { FormDoes (form_view form.entry) (S.state shelf.old) (S.state shelf.new) (O.state out.old) (O.state out.new)
+        (⟦<Rack as SinkList>⟧.sinks rack.old) (⟦<Rack as SinkList>⟧.sinks rack.new) result }
 {
     match form {
         Form::Replay(script) => replay(alloc, script, shelf, out),
@@ -78,6 +110,7 @@ fn run<S: Shelf, O: Out>(
         Form::Table(device, table, capture) => classify_by_table(
             alloc, device, table, capture, shelf, out,
         ),
+        Form::Steer(script, capture) => steer_frames(alloc, script, capture, shelf, out, rack),
         Form::Gen(seed, frames) => sum_up_load(alloc, seed, frames, out),
     }
 }

@@ -59,6 +59,8 @@ pub enum Stop {
     AlreadyRefused,
     /// A write failed.
     WriteFault,
+    /// A sink failed, and nothing was written.
+    SinkFault,
     /// Memory ran out.
     Memory,
 }

@@ -18,7 +18,7 @@ returns-in_err-frames-clause-read g c =
     let p = err_from_is_err_and c.from_residual-in_err-frames.result c.from_residual-in_err-frames.ensures.1 in
     let middle = g.S.Shelf.state c.compiled_in.new.shelf in
     let read = g.S.Shelf.state c.frames_in.new.shelf in
-    rw (p.1, p.2) (read_then (g.S.Shelf.state c.args.shelf.now) middle read (compiled_in c.args.device.now c.args.table.now) (λ run files. frames_in c.args.capture.now files >>= λ frames. Ok (run, frames)) c.in_ok-compiled.compiled (Err c.in_err-frames.field-0.0) c.in_ok-compiled.ensures.read c.in_ok-compiled.ensures.same_files (read_stops middle read _ _ _ c.in_err-frames.ensures))
+    rw (p.1, p.2) (read_then (g.S.Shelf.state c.args.shelf.now) middle read (compiled_in c.args.device.now c.args.table.now) (λ run files. frames_in c.args.capture.now files >>= λ frames. Ok (run, frames)) c.in_ok-compiled.compiled (Err c.in_err-frames.field-0.0) c.in_ok-compiled.ensures.read c.in_ok-compiled.ensures.same_files (read_stops middle read _ _ _ c.in_err-frames.ensures.read))
 
 pub returns-clause-read : goal.returns-clause-read
 unfolding table_run_in
@@ -27,4 +27,4 @@ returns-clause-read g c =
     let read = g.S.Shelf.state c.frames_in.new.shelf in
     let run = c.in_ok-compiled.compiled in
     read_then (g.S.Shelf.state c.args.shelf.now) middle read (compiled_in c.args.device.now c.args.table.now) (λ r files. frames_in c.args.capture.now files >>= λ frames. Ok (r, frames)) run (Ok (run, c.in_ok-frames.frames)) c.in_ok-compiled.ensures.read c.in_ok-compiled.ensures.same_files
-    (read_judged middle read (frames_in c.args.capture.now) (λ frames. Ok (run, frames)) c.in_ok-frames.frames (Ok (run, c.in_ok-frames.frames)) c.in_ok-frames.ensures refl)
+    (read_judged middle read (frames_in c.args.capture.now) (λ frames. Ok (run, frames)) c.in_ok-frames.frames (Ok (run, c.in_ok-frames.frames)) c.in_ok-frames.ensures.read refl)
