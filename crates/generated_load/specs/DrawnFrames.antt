@@ -1,5 +1,5 @@
--- The frames that are drawn from a seed, behind its table. This project's own; the layouts are those of IEEE 802.3, RFC 791
--- and of the ports in RFC 768 and RFC 9293.
+-- The frames that are drawn from a seed, behind its table. This project's own; the layouts are those of IEEE 802.3,
+-- RFC 791 and of the ports in RFC 768 and RFC 9293.
 use Rattle.std.specs.Prelude.{ℕ, ◌/◌, ◌%◌, ◌==◌, if◌then◌else◌, List, [], ◌∷◌, ◌++◌, replicate}
 use Rattle.generated_load.specs.Draws.{draw, each_drawn}
 use Rattle.generated_load.specs.DrawnTables.{drawn_specs}

@@ -3,8 +3,8 @@
 ghost use Rattle.std.specs.Prelude.{◌≡◌, ◌<◌, ◌≤◌, ◌^◌, IfOk};
 ghost use Rattle.ntuple_text.specs.Spellable.{IsActionOf, IsSpellable};
 ghost use Rattle.ntuple_text.specs.TableMaps.{location_count};
-ghost use Rattle.generated_load.specs.DrawnTables.{IsSpelled, action_at, drawn_criteria, drawn_spec, drawn_specs, drawn_table};
-ghost use Rattle.generated_load.specs.DrawnTables.{ip_criteria, load_caps, private_address, tcp_criteria};
+ghost use Rattle.generated_load.specs.DrawnTables.{IsSpelled, action_at, drawn_criteria, drawn_spec, drawn_specs};
+ghost use Rattle.generated_load.specs.DrawnTables.{drawn_table, ip_criteria, load_caps, private_address, tcp_criteria};
 ghost use Rattle.generated_load.specs.DrawnTables.{udp_criteria, whole};
 
 use crate::draws::draw;

@@ -28,7 +28,7 @@ count_line word number = word ++ number_end number
 unfoldable pub queue_line : ℕ × ℕ → List ℕ
 queue_line count = codes "queue " ++ (decimal count.0 ++ number_end count.1)
 
--- how many frames there are, are dropped, get the default, and go to each queue. The default isn't counted with queue 0.
+-- how many frames there are, are dropped, get the default, and go to each queue; the default isn't one of queue 0
 unfoldable pub summary_text : ℕ → ActionCounts → List ℕ
 summary_text frames counts =
     count_line (codes "frames") frames

@@ -1,5 +1,5 @@
-//! The form `gen SEED N`: how often each action happens to the frames of a seed, by the table of this seed, on a device of
-//! its own. The frames are made one at a time.
+//! The form `gen SEED N`: how often each action happens to the frames of a seed, by the table of this seed, on a device
+//! of its own. The frames are made one at a time.
 
 ghost use Rattle.std.specs.Prelude.{◌≡◌, [], IfOk};
 ghost use Rattle.vnff_base.specs.Outputs.{Writes};
