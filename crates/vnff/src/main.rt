@@ -1,17 +1,22 @@
 //! The program: its words, real files and standard output, given to the call that does everything.
 //!
 //! Nothing is decided here but what the system's own answers mean: a word that isn't UTF-8 is a faulty command line,
-//! and without memory for the words the program ends as wherever memory runs out.
+//! and without memory for the words or the sinks the program ends as wherever memory runs out.
 #![tactic(auto)]
 
-ghost use Rattle.std.specs.Prelude.{◌≡◌, ◌≤◌, ◌⊎◌, IfErr};
+ghost use Rattle.std.specs.Prelude.{◌≡◌, ◌≤◌, ◌⊎◌, IfErr, IfOk};
 
+use rx_sinks::{CaptureSink, Rack, RxSink};
+use std::alloc::AllocError;
 use std::env;
 use std::io::ErrorKind;
 use std::process::ExitCode;
-use std::rt::{Env, Files};
-use vnff_base::{DirShelf, StdOut};
+use std::rt::Env;
+use vnff_base::{DirShelf, FileOut, StdOut};
 use vnff_run::{FAULTY_WORDS, NO_MEMORY, plain};
+
+/// How many queues have a sink: as many as a device may have.
+const QUEUES: u8 = 16;
 
 /// The words behind the program's own name, or the exit status where there are none to run on.
 fn words<R: Env + AllocGlobal>(rt: &R) -> Result<Vec<String>, u8>
@@ -24,21 +29,30 @@ fn words<R: Env + AllocGlobal>(rt: &R) -> Result<Vec<String>, u8>
     }
 }
 
-/// Runs the program over real files and standard output, and gives its exit status.
-fn run<R: Env + Files + Print + AllocGlobal>(rt: &R) -> u8
-    ensures { result ≤ 5 }
+/// Runs the program over real files and standard output, and gives its exit status. The frames of queue Q go to the
+/// file `rx-Q.pcap`, which is made or emptied when the first of its bytes is written.
+fn run(rt: &HostRuntime) -> Result<u8, AllocError>
+    ensures { IfOk result (λ status. status ≤ 5) }
 {
-    match words(rt) {
-        Ok(words) => plain(
-            rt.alloc(),
-            words.as_slice(),
-            &mut DirShelf::new(rt),
-            &mut StdOut::new(rt),
-        ),
-        Err(status) => status,
+    let words = match words(rt) {
+        Ok(words) => words,
+        Err(status) => return Ok(status),
+    };
+    let mut sinks: Vec<Box<dyn RxSink>> = Vec::new(rt.alloc());
+    for queue in 0..QUEUES {
+        let name = format!(in rt.alloc(); "rx-{queue}.pcap")?;
+        let sink = CaptureSink::new(FileOut::new(rt.clone()?, name));
+        sinks.push(Box::new(rt.alloc(), sink)?)?;
     }
+    Ok(plain(
+        rt.alloc(),
+        words.as_slice(),
+        &mut DirShelf::new(rt),
+        &mut StdOut::new(rt),
+        &mut Rack::new(sinks),
+    ))
 }
 
 fn main(rt: HostRuntime) -> ExitCode {
-    ExitCode::from(run(&rt))
+    ExitCode::from(run(&rt).unwrap_or(NO_MEMORY))
 }
