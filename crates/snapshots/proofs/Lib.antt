@@ -5,3 +5,4 @@ pub mod Adding
 pub mod Reading
 pub mod Seating
 pub mod Publishing
+pub mod Openings

@@ -15,12 +15,12 @@ ghost use Rattle.vnff_run.specs.Steering.{steer_text, steering_for};
 
 use crate::delivery::deliver_and_finish;
 use crate::file::{frames_in, script_in};
-use crate::script::{AdminLine, Item, Script};
+use crate::script::{Item, Script};
 use crate::stop::Stop;
 use capture::Frames;
 use rx_sinks::{Rack, SinkList};
 use std::alloc::{AllocError, Global};
-use steer::Bench;
+use steer::{AdminLine, Bench};
 use vnff_base::{Gathered, Out, Shelf};
 
 /// Carries out the commands of the script in a file, hands the frames of the capture in another to the sinks of their
