@@ -1,7 +1,7 @@
-//! The program: its words, real files and standard output, given to the call that does everything.
+//! The program: its words, real files, standard output and threads, given to the call that does everything. It may wait.
 //!
 //! Nothing is decided here but what the system's own answers mean: a word that isn't UTF-8 is a faulty command line,
-//! and without memory for the words or the sinks the program ends as wherever memory runs out.
+//! and without memory for the words or the sinks the program ends as wherever memory runs out. No gate holds a live run.
 #![tactic(auto)]
 
 ghost use Rattle.std.specs.Prelude.{◌≡◌, ◌≤◌, ◌⊎◌, IfErr, IfOk};
@@ -12,8 +12,9 @@ use std::env;
 use std::io::ErrorKind;
 use std::process::ExitCode;
 use std::rt::Env;
+use steer::Open;
 use vnff_base::{DirShelf, FileOut, StdOut};
-use vnff_run::{FAULTY_WORDS, NO_MEMORY, plain};
+use vnff_run::{FAULTY_WORDS, NO_MEMORY, top};
 
 /// How many queues have a sink: as many as a device may have.
 const QUEUES: u8 = 16;
@@ -44,12 +45,14 @@ fn run(rt: &HostRuntime) -> Result<u8, AllocError>
         let sink = CaptureSink::new(FileOut::new(rt.clone()?, name));
         sinks.push(Box::new(rt.alloc(), sink)?)?;
     }
-    Ok(plain(
+    Ok(top(
+        rt,
         rt.alloc(),
         words.as_slice(),
         &mut DirShelf::new(rt),
         &mut StdOut::new(rt),
         &mut Rack::new(sinks),
+        &Open,
     ))
 }
 

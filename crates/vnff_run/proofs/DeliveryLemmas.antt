@@ -58,11 +58,11 @@ got_more {old = old} pairs objects frames frame None got same is within =
     (first_weaker (λ q a b so. so ∙ ap (appended a) (sym (list_none objects frames frame q is))) got)
 got_more pairs objects frames frame (Some k) got one is within =
     first_then got (one_first one (within k refl)) (λ q a b c so next. ⊎_elim
-        (λ (at : (q ≡ k) × (c ≡ delivered b frame)).
-        at.1 ∙ ap (λ s. appended s (frame ∷ [])) so ∙ appended-append a (sink_list objects frames q) (frame ∷ [])
-        ∙ ap (appended a) (sym (list_same objects frames frame q k is at.0)))
-        (λ (off : (q ≢ k) × (c ≡ b)). off.1 ∙ so ∙ ap (appended a) (sym (list_other objects frames frame q k is off.0)))
-        next)
+    (λ (at : (q ≡ k) × (c ≡ delivered b frame)).
+    at.1 ∙ ap (λ s. appended s (frame ∷ [])) so ∙ appended-append a (sink_list objects frames q) (frame ∷ [])
+    ∙ ap (appended a) (sym (list_same objects frames frame q k is at.0)))
+    (λ (off : (q ≢ k) × (c ≡ b)). off.1 ∙ so ∙ ap (appended a) (sym (list_other objects frames frame q k is off.0)))
+    next)
 
 -- all frames
 pub got_all : {old new : List SinkState} (pairs : ℕ) (objects : FlowObjects) (frames : List (List ℕ)) (i : ℕ) → length frames ≤ i → Got pairs objects (take i frames) old new → Got pairs objects frames old new
@@ -76,7 +76,8 @@ got_failed {old = old} {new = new} pairs objects frames (Some k) got one within 
       (λ (at : (q ≡ k) × Faulted b c). subst (λ s. Follows s c) so at.1.follows)
       (λ (off : (q ≢ k) × (c ≡ b)). subst (Follows (appended a (sink_list objects frames q))) (sym (off.1 ∙ so)) (follows-same (appended a (sink_list objects frames q))))
       next),
-  (k, within k refl, subst (λ s. Rose s.faults (sink_at new k).faults) (got.first k (within k refl)) one.one.rose))
+  (k, within k refl, subst (λ s. Rose s.faults (sink_at new k).faults) (got.first k (within k refl)) one.one.rose),
+)
 
 -- a rack's answer
 pub ok_delivered : {A E : Type 0} (queue : ℕ) (frame : List ℕ) (old new : List SinkState) (result : Result A E) → OneSink queue (λ a b. Delivers a b frame result) old new → OnOk result (OneDelivered (Some queue) frame old new)
@@ -182,7 +183,8 @@ pub all_steered : {old new : List SinkState} (run : Steering) → AllSteered run
 all_steered run all = (
   length run.frames,
   first_weaker (λ q a b so. subst (λ fs. Follows (finished (appended a (sink_list run.objects fs q))) b) (sym (take_all (length run.frames) run.frames (omega arith)))
-  (subst (Follows (finished (appended a (sink_list run.objects run.frames q)))) (sym so) (follows-same (finished (appended a (sink_list run.objects run.frames q)))))) all)
+      (subst (Follows (finished (appended a (sink_list run.objects run.frames q)))) (sym so) (follows-same (finished (appended a (sink_list run.objects run.frames q)))))) all,
+)
 
 -- a sink that failed among the first is one of all
 pub rose_among : (old new : List SinkState) (pairs n : ℕ) → pairs ≤ n → OneRose pairs old new → OneRose n old new

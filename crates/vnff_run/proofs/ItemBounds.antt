@@ -1,23 +1,31 @@
--- What a text spells is within the limits of the grammar: the bytes of its commands, their rooms, and its frames.
-use Rattle.std.proofs.Common.{◌≡◌, ◌≢◌, ℕ, ◌≤◌, Bool, true, false, List, [], ◌∷◌, codes, length, Option, Some, None, Result, Ok, Err, refl, subst}
+-- What a text spells is within the limits of the grammar: the bytes of its commands, their rooms, and its frames; and it
+-- spells no more items than it has bytes.
+use Rattle.std.proofs.Common.{◌≡◌, ◌≢◌, ℕ, ◌+◌, ◌≤◌, Bool, true, false, not, List, [], ◌∷◌, codes, length, drop, Option, Some, None, Result, Ok, Err, ◌⊎◌, inl, inr, ⊎_elim, refl, subst, arith}
 use Rattle.std.specs.Prelude.{IfOk, MatchResult, ◌&&◌, if◌then◌else◌, nat_le, option_and_then}
 use Rattle.std.specs.List.{All}
 use Rattle.std.specs.Option.{ok_or}
 use Rattle.std.proofs.lemmas.Bool.{and_parts, leb-true}
 use Rattle.std.proofs.lemmas.List.Elements.{All-nil, All-cons}
 use Rattle.std.specs.Str.{bytes_eq}
+use Rattle.std.specs.Str.Lines.{lines}
+use Rattle.ff_headers.specs.Kinds.{kind_code}
+use Rattle.ff_headers.specs.SelectorParts.{SelectorParts}
+use Rattle.vnff_base.proofs.TextLaws.{length-lines-le}
 use Rattle.vnff_base.specs.Hex.{hex_bytes}
-use Rattle.vnff_base.specs.Lines.{NumberedLine}
+use Rattle.vnff_base.specs.Lines.{NumberedLine, UnreadLines, is_skipped, numbered_from, unread_from, words_of}
 use Rattle.vnff_base.specs.Numbers.{number_of}
+use Rattle.vnff_run.specs.DeviceLines.{device_of, is_version}
 use Rattle.vnff_run.specs.Grammar.{after_version, at_line, device_in, items_of, script_of_lines, selectors_in, with_selectors}
 use Rattle.vnff_run.specs.ItemLines.{IsWithin, admin_of, frame_of, item_of, most_command, most_frame, most_room}
 use Rattle.vnff_run.specs.Readings.{IsFaultOf}
 use Rattle.vnff_run.specs.Results.{◌>>=◌}
+use Rattle.vnff_run.specs.SelectLines.{is_select, selector_of}
 use Rattle.vnff_run.specs.Words.{bytes_within, if_within, number_within}
+use Rattle.vnff_run.specs.declared.script.DeviceLine.{DeviceLine}
 use Rattle.vnff_run.specs.declared.script.Item.{Item}
 use Rattle.vnff_run.specs.declared.script.Item.TheVariants.{Admin, Frame}
 use Rattle.vnff_run.specs.declared.script.Reason.{Reason}
-use Rattle.vnff_run.specs.declared.script.Reason.TheVariants.{Hex, Room, Word}
+use Rattle.vnff_run.specs.declared.script.Reason.TheVariants.{Hex, Room, Version, Word}
 use Rattle.vnff_run.specs.declared.script.Script.{Script}
 use Rattle.vnff_run.specs.declared.script.ScriptFault.{ScriptFault}
 
@@ -119,3 +127,81 @@ script_within missing lines script is =
 pub read_within : (read : Result Script ScriptFault) (missing : ℕ) (lines : List NumberedLine) → MatchResult read (λ script. script_of_lines missing lines ≡ Ok script) (IsFaultOf (script_of_lines missing lines)) → IfOk read (λ script. All IsWithin script.items)
 read_within (Ok script) missing lines is = script_within missing lines script is
 read_within (Err fault) missing lines is = tt
+
+-- ---- how many items there are
+
+items_count : (lines : List NumberedLine) (items : List Item) → items_of lines ≡ Ok items → length items ≤ length lines
+unfolding items_of
+items_count [] items is =
+    let same : [] ≡ items = cc in
+    subst (λ (found : List Item). length found ≤ 0) same (omega arith)
+items_count (line ∷ lines) items is =
+    let first = both_done (at_line line.number (item_of line.words)) _ items is in
+    let more = both_done (items_of lines) _ items first.2 in
+    let same : first.0 ∷ more.0 ≡ items = cc in
+    subst (λ (found : List Item). length found ≤ length (line ∷ lines)) same (omega (arith, items_count lines more.0 more.1))
+
+passed_or : {A E : Type 0} (test : Bool) (x value : A) (fault : E) → (if test then Ok x else Err fault) ≡ Ok value → x ≡ value
+passed_or true x value fault is = cc
+passed_or false x value fault is = absurd (cc)
+
+behind_version : (missing : ℕ) (lines behind : List NumberedLine) → after_version missing lines ≡ Ok behind → length behind ≤ length lines
+unfolding after_version
+behind_version missing [] behind is = absurd (cc)
+behind_version missing (line ∷ lines) behind is =
+    let same = passed_or (is_version line.words) lines behind (line.number, Version) is in
+    subst (λ (found : List NumberedLine). length found ≤ length (line ∷ lines)) same (omega arith)
+
+behind_device : (missing : ℕ) (lines : List NumberedLine) (device : DeviceLine × List NumberedLine) → device_in missing lines ≡ Ok device → length device.1 ≤ length lines
+unfolding device_in
+behind_device missing [] device is = absurd (cc)
+behind_device missing (line ∷ lines) device is =
+    let read = both_done (at_line line.number (device_of line.words)) _ device is in
+    let same : (read.0, lines) ≡ device = cc in
+    subst (λ (found : DeviceLine × List NumberedLine). length found.1 ≤ length (line ∷ lines)) same (omega arith)
+
+select_or : (test : Bool) (stop more : Result (List SelectorParts × List NumberedLine) (ℕ × Reason)) (value : List SelectorParts × List NumberedLine) → (if not test then stop else more) ≡ Ok value → (stop ≡ Ok value) ⊎ (more ≡ Ok value)
+select_or true stop more value is = inr is
+select_or false stop more value is = inl is
+
+behind_selectors : (last : ℕ) (lines : List NumberedLine) (selected : List SelectorParts × List NumberedLine) → selectors_in last lines ≡ Ok selected → length selected.1 ≤ length lines
+unfolding selectors_in
+behind_selectors last [] selected is =
+    let same : ([], []) ≡ selected = cc in
+    subst (λ (found : List SelectorParts × List NumberedLine). length found.1 ≤ 0) same (omega arith)
+behind_selectors last (line ∷ lines) selected is =
+    ⊎_elim
+    (λ stop. let same : ([], line ∷ lines) ≡ selected = cc in subst (λ (found : List SelectorParts × List NumberedLine). length found.1 ≤ length (line ∷ lines)) same (omega arith))
+    (λ more. let selector = both_done (at_line line.number (selector_of last (drop 1 line.words))) _ selected more in
+    let rest = both_done (selectors_in (kind_code selector.0.kind) lines) _ selected selector.2 in
+    let same : (selector.0 ∷ rest.0.0, rest.0.1) ≡ selected = cc in
+    subst (λ (found : List SelectorParts × List NumberedLine). length found.1 ≤ length (line ∷ lines)) same (omega (arith, behind_selectors (kind_code selector.0.kind) lines rest.0 rest.1)))
+    (select_or (is_select line.words) (Ok ([], line ∷ lines)) _ selected is)
+
+script_few : (missing : ℕ) (lines : List NumberedLine) (script : Script) → script_of_lines missing lines ≡ Ok script → length script.items ≤ length lines
+unfolding script_of_lines
+script_few missing lines script is =
+    let behind = both_done (after_version missing lines) _ script is in
+    let device = both_done (device_in missing behind.0) _ script behind.2 in
+    let selected = both_done (selectors_in 0 device.0.1) _ script device.2 in
+    let items = both_done (items_of selected.0.1) _ script selected.2 in
+    let same : record { caps = with_selectors device.0.0.caps selected.0.0; start = device.0.0.start; items = items.0 } ≡ script = cc in
+    subst (λ (s : Script). length s.items ≤ length lines) same
+    (omega (arith, items_count selected.0.1 items.0 items.1, behind_selectors 0 device.0.1 selected.0 selected.1, behind_device missing behind.0 device.0 device.1, behind_version missing lines behind.0 behind.1))
+
+skipped_or : (skipped : Bool) (line : NumberedLine) (more : List NumberedLine) (n : ℕ) → length more ≤ n → length (if skipped then more else line ∷ more) ≤ n + 1
+skipped_or true line more n few = omega (arith, few)
+skipped_or false line more n few = omega (arith, few)
+
+numbered_few : (from : ℕ) (text : List (List ℕ)) → length (numbered_from from text) ≤ length text
+numbered_few from [] = omega arith
+numbered_few from (line ∷ text) =
+    let words = words_of line in
+    omega (arith, skipped_or (is_skipped words) (record { number = from; words = words }) (numbered_from (from + 1) text) (length text) (numbered_few (from + 1) text))
+
+-- a text has no more items than bytes
+pub read_few : (text : List ℕ) (unread : UnreadLines) (read : Result Script ScriptFault) → unread ≡ unread_from 1 text → MatchResult read (λ script. script_of_lines unread.missing unread.left ≡ Ok script) (IsFaultOf (script_of_lines unread.missing unread.left)) → IfOk read (λ script. length script.items ≤ length text)
+read_few text unread (Ok script) all is =
+    let left : length unread.left ≤ length (lines text) = rw all (numbered_few 1 (lines text)) in
+    omega (arith, script_few unread.missing unread.left script is, left, length-lines-le text)
+read_few text unread (Err fault) all is = tt

@@ -11,7 +11,11 @@ mod InputLemmas
 mod ItemBounds
 mod LoadLemmas
 mod LoadRows
+mod LiveCommandLemmas
+mod LiveLines
+mod LiveOrderLemmas
 mod PacketLemmas
+mod PlanLemmas
 mod ProgramLemmas
 mod QueuePlaced
 mod ReplayLemmas

@@ -66,7 +66,8 @@ steer_stops A shelf shelf_new out out_new script capture sinks stops.ReadFault w
 steer_stops A shelf shelf_new out out_new script capture sinks (stops.Refused input) why left = (
   form_stops shelf shelf_new out out_new (steer_input_in script capture) (λ i. done_outcome (steer_text (steering_for i))) (stops.Refused input) why left,
   refl,
-  IfSome_then shelf.files why.1 (λ files is. ap (λ r. option_map steering_for (result_ok r)) is))
+  IfSome_then shelf.files why.1 (λ files is. ap (λ r. option_map steering_for (result_ok r)) is),
+)
 steer_stops A shelf shelf_new out out_new script capture sinks stops.AlreadyRefused why left = absurd why
 steer_stops A shelf shelf_new out out_new script capture sinks stops.WriteFault why left = absurd why
 steer_stops A shelf shelf_new out out_new script capture sinks stops.SinkFault why left = absurd why
@@ -88,7 +89,8 @@ unfolding outcome_in
 steer_does shelf shelf_new out out_new script capture input old new (Ok x) read ran did = (
   form_runs shelf shelf_new out out_new (steer_input_in script capture) (λ i. done_outcome (steer_text (steering_for i))) input (Ok x) read ran,
   (λ other. absurd (cc)),
-  sinks_are shelf shelf_new script capture input old new (λ run. AllSteered run old new) read did)
+  sinks_are shelf shelf_new script capture input old new (λ run. AllSteered run old new) read did,
+)
 steer_does shelf shelf_new out out_new script capture input old new (Err stops.ReadFault) read ran did = absurd ran
 steer_does shelf shelf_new out out_new script capture input old new (Err (stops.Refused refusal)) read ran did = absurd ran
 steer_does {A = A} shelf shelf_new out out_new script capture input old new (Err stops.AlreadyRefused) read ran did =
@@ -96,13 +98,15 @@ steer_does {A = A} shelf shelf_new out out_new script capture input old new (Err
 steer_does {A = A} shelf shelf_new out out_new script capture input old new (Err stops.WriteFault) read ran did = (
   form_runs {B = A} shelf shelf_new out out_new (steer_input_in script capture) (λ i. done_outcome (steer_text (steering_for i))) input (Err stops.WriteFault) read ran,
   (λ other. absurd (cc)),
-  sinks_are shelf shelf_new script capture input old new (λ run. FrontSteered run old new) read did)
+  sinks_are shelf shelf_new script capture input old new (λ run. FrontSteered run old new) read did,
+)
 steer_does shelf shelf_new out out_new script capture input old new (Err stops.SinkFault) read ran did = (
   read.0,
   ran,
   refl,
   (did.2, of_steering shelf shelf_new script capture input (λ run. OneRose run.pairs old new) read did.1),
-  of_steering shelf shelf_new script capture input (λ run. FrontSteered run old new) read did.0)
+  of_steering shelf shelf_new script capture input (λ run. FrontSteered run old new) read did.0,
+)
 steer_does {A = A} shelf shelf_new out out_new script capture input old new (Err stops.Memory) read ran did =
     (form_runs {B = A} shelf shelf_new out out_new (steer_input_in script capture) (λ i. done_outcome (steer_text (steering_for i))) input (Err stops.Memory) read ran, did)
 

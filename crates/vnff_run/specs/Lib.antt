@@ -11,7 +11,14 @@ pub mod Inputs
 pub mod ItemLines
 pub mod LoadWords
 pub mod Loads
+pub mod LiveEndings
+pub mod LiveOrders
+pub mod LiveRuns
+pub mod LiveTexts
+pub mod LiveWords
 pub mod Outcomes
+pub mod PlanEndings
+pub mod Plans
 pub mod Programs
 pub mod Readings
 pub mod Replay

@@ -40,6 +40,7 @@ pub(crate) fn bytes_in<S: Shelf>(
 pub fn script_in<S: Shelf>(alloc: Global, name: &str, shelf: &mut S) -> Result<Script, Stop>
     ensures read { ReadsInput (S.state shelf.old) (S.state shelf.new) (script_in name.now) result }
     ensures items { IfOk result (λ script. All IsWithin script.items) }
+    ensures few { IfOk result (λ script. length script.items ≤ file_limit) }
     ensures same_files { (S.state shelf.new).files ≡ (S.state shelf.old).files }
 {
     let bytes = bytes_in(alloc, FileKind::Script, name, shelf)?;
@@ -47,11 +48,7 @@ pub fn script_in<S: Shelf>(alloc: Global, name: &str, shelf: &mut S) -> Result<S
 }
 
 /// The frames of the capture in a file, which is never held whole.
-pub(crate) fn frames_in<S: Shelf>(
-    alloc: Global,
-    name: &str,
-    shelf: &mut S,
-) -> Result<Frames, Stop>
+pub(crate) fn frames_in<S: Shelf>(alloc: Global, name: &str, shelf: &mut S) -> Result<Frames, Stop>
     ensures read { ReadsInput (S.state shelf.old) (S.state shelf.new) (frames_in name.now) result }
     ensures short { IfOk result (All (λ frame. length frame ≤ most_frame)) }
     ensures same_files { (S.state shelf.new).files ≡ (S.state shelf.old).files }

@@ -85,8 +85,8 @@ fn load_of<'a>(seed: &[u8], frames: &[u8]) -> Option<Form<'a>>
 fn two_files<'a>(form: &str, first: &'a str, second: &'a str) -> Option<Form<'a>>
     ensures { option_map form_view result
         ≡ if bytes_eq form.now (codes "compile") then Some (WordCompile first.now second.now)
-          else if bytes_eq form.now (codes "steer") then Some (WordSteer first.now second.now)
-          else None }
+        else if bytes_eq form.now (codes "steer") then Some (WordSteer first.now second.now)
+        else None }
 {
     if form == "compile" {
         Some(Form::Compile(first, second))

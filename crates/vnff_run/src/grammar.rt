@@ -36,6 +36,8 @@ pub fn read_script(alloc: Global, bytes: &[u8]) -> Result<Script, ScriptFault>
         → MatchResult result (λ read. read ≡ script) (λ fault. fault ≡ ScriptFault.Memory) }
     // Its commands, rooms and frames are within their limits.
     ensures within { IfOk result (λ script. All IsWithin script.items) }
+    // There are no more items than bytes.
+    ensures few { IfOk result (λ script. length script.items ≤ length bytes.now) }
 {
     read_lines(alloc, &mut LineReader::new(bytes))
 }

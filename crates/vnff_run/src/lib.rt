@@ -1,12 +1,16 @@
 //! Scripts and tables, what they print, and the program's call.
 //!
-//! [`plain`] is the call that the program makes. It reads the files that its words name from any shelf and writes lines
-//! to any output: of a script, each command goes through the ring of a bench, and each frame is searched in the bench's
+//! [`plain`] is the call of all forms that wait for nobody. It reads the files that its words name from any shelf and
+//! writes lines to any output: of a script, each command goes through the ring of a bench, and each frame is searched in the bench's
 //! tables; of a table of flow steering rules, the commands that it is compiled to, or what a bench that was sent them
 //! does with each frame of a capture, or with frames that are drawn from a seed; of a script and a capture, the frames
 //! go to the sinks of their queues; of an image of guest memory, each chain of a split virtqueue is gathered. Bench,
 //! queue, compiling, captures and loads are those of the crates below; scripts, texts, statuses and limits are this
 //! project's own.
+//!
+//! [`top`] also carries live runs out, in which workers classify frames while commands change the rules; it hands all
+//! other words to `plain`. A live run has many texts, those of its legal runs: where the shelf tells its files and the
+//! output tells its bytes, `top` writes one of them.
 //!
 //! What is promised, on `plain` itself: where the shelf tells its files and the output tells its bytes, the status and
 //! what was written are the outcome that is defined for the words and the files; a failed read or write, and want of
@@ -21,6 +25,10 @@
 //! `load_text` and `drain_text`; `delivery` hands frames to sinks; `compile_text` writes the script of a compiled table.
 //! Scripts are read by `grammar`, line by line: `device_line` (the first two lines), `select_line` and `item_line`, over
 //! the words that `word` reads.
+//!
+//! Live runs: `live_words` (what the words ask for), `live_run` (what is read), `live_call` (how a run ends), `live_text`
+//! (its lines), `live_laws`; `top_call` has the call. In specs/ `LiveWords`, `LiveRuns`, `LiveTexts` (the texts of a live run),
+//! `Plans` (one outcome or a live run) and `LiveOrders` (tables in live runs); `LiveEndings` and `PlanEndings` are the code's own.
 //!
 //! Definitions, in specs/: `Forms` (of words), `Inputs` and `TableInputs` (what the files give, or what is at fault
 //! with them) and `Outcomes` (statuses and texts, form by form); `Grammar` (scripts), `DeviceLines`, `SelectLines` and
@@ -51,6 +59,11 @@ pub mod laws;
 mod load;
 mod load_text;
 mod load_words;
+mod live_call;
+pub mod live_laws;
+mod live_run;
+mod live_text;
+mod live_words;
 mod program;
 mod replay;
 mod script;
@@ -61,6 +74,7 @@ mod table;
 mod table_refusal;
 mod tally;
 mod text;
+mod top_call;
 mod word;
 
 pub use ending::{DONE, FAULTY_WORDS, NO_MEMORY, READ_FAULT, REFUSED, WRITE_FAULT};
@@ -69,3 +83,4 @@ pub use grammar::{read_device_file, read_script};
 pub use program::plain;
 pub use script::{Item, Reason, Script, ScriptFault};
 pub use steer::AdminLine;
+pub use top_call::top;

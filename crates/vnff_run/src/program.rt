@@ -52,7 +52,7 @@ pub fn plain<S: Shelf, O: Out>(
         (result ≡ end.status) ⊎ (result ≡ 5)
         ⊎ ReadFailed (S.state shelf.old) (S.state shelf.new) ⊎ WriteFailed (O.state out.old) (O.state out.new)
         ⊎ SinkFailed (S.state shelf.old) (steering_of (map string_bytes words.now))
-            (⟦<Rack as SinkList>⟧.sinks rack.old) (⟦<Rack as SinkList>⟧.sinks rack.new)) }
+        (⟦<Rack as SinkList>⟧.sinks rack.old) (⟦<Rack as SinkList>⟧.sinks rack.new)) }
 
     // 3 is a failure of the shelf, or a file that isn't there, and then nothing was written.
     ensures read { result ≡ 3 → ReadFailed (S.state shelf.old) (S.state shelf.new)
@@ -62,9 +62,9 @@ pub fn plain<S: Shelf, O: Out>(
     // 4 is a failure of the output, or with `steer` of a sink, and then nothing was written.
     ensures write { result ≡ 4 → WriteFailed (O.state out.old) (O.state out.new)
         ⊎ (is_steer (form_of (map string_bytes words.now)) ≡ true)
-          × SinkFailed (S.state shelf.old) (steering_of (map string_bytes words.now))
-              (⟦<Rack as SinkList>⟧.sinks rack.old) (⟦<Rack as SinkList>⟧.sinks rack.new)
-          × AppendedNothing (O.state out.old) (O.state out.new) }
+        × SinkFailed (S.state shelf.old) (steering_of (map string_bytes words.now))
+        (⟦<Rack as SinkList>⟧.sinks rack.old) (⟦<Rack as SinkList>⟧.sinks rack.new)
+        × AppendedNothing (O.state out.old) (O.state out.new) }
 
     // A failure of the shelf or the output is answered by 3 or 4, and never by another status.
     ensures no_read { result ≢ 3 → NoReadFailed (S.state shelf.old) (S.state shelf.new) }

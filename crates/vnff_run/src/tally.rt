@@ -58,12 +58,7 @@ impl Tally {
     }
 
     /// Writes the lines of the first queues.
-    fn put_queues<O: Out>(
-        &self,
-        pairs: u8,
-        text: &mut Gathered,
-        out: &mut O,
-    ) -> Result<(), Failed>
+    fn put_queues<O: Out>(&self, pairs: u8, text: &mut Gathered, out: &mut O) -> Result<(), Failed>
         requires few { pairs ≤ 16 }
         ensures { Gathers (O.state out.old) (O.state out.new) text.old text.new
             (flat_map (count_line self.now) (range_with_len 0 pairs)) result }

@@ -2,6 +2,7 @@
 
 ghost use Rattle.std.specs.Prelude.{decimal};
 ghost use Rattle.vnff_base.specs.Gatherings.{Gathers};
+ghost use Rattle.vnff_run.specs.LiveTexts.{live_line};
 ghost use Rattle.vnff_run.specs.Replay.{action_text, frame_line, reply_line};
 ghost use Rattle.vnff_run.specs.Tables.{packet_line};
 
@@ -62,6 +63,27 @@ pub fn put_packet_line<O: Out>(
 {
     text.put(out, b"packet ")?;
     put_number(text, out, number as u64)?;
+    text.put(out, b" ")?;
+    put_action(text, out, action)?;
+    text.put(out, b"\n")
+}
+
+/// Writes the line of a packet of a live run: `packet`, its number, `after`, how many changes were made before it was
+/// classified, its action, a line feed.
+#[tactic(auto, unfolding(crate::specs::LiveTexts::live_line))]
+pub fn put_live_line<O: Out>(
+    text: &mut Gathered,
+    out: &mut O,
+    number: usize,
+    after: u64,
+    action: Action,
+) -> Result<(), Failed>
+    ensures { Gathers (O.state out.old) (O.state out.new) text.old text.new (live_line number after action) result }
+{
+    text.put(out, b"packet ")?;
+    put_number(text, out, number as u64)?;
+    text.put(out, b" after ")?;
+    put_number(text, out, after)?;
     text.put(out, b" ")?;
     put_action(text, out, action)?;
     text.put(out, b"\n")

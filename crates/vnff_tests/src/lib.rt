@@ -17,6 +17,7 @@ mod device;
 mod headers;
 #[cfg(test)]
 mod loads;
+mod live;
 #[cfg(test)]
 mod maps;
 #[cfg(test)]

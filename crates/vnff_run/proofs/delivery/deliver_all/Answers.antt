@@ -52,16 +52,16 @@ loop-place-preserved g c =
     let within : i < length frames = omega (arith, c.loop-place.invariant.end, c.loop-place-test.true) in
     elim c.match-at.branch [
       | in-Some+in_ok-deliver w ↦
-        let frame = w.in-Some.frame.now in
-        let to = w.queue_of-queue.result in
-        let below = λ (q : ℕ) (is : to ≡ Some q). queue_within w.frame.result device.caps.pairs c.requires.some w.frame.ensures.queue q (sym w.queue_of-queue.ensures ∙ is) in
-        let goes = sym (w.queue_of-queue.ensures ∙ ap queue_of w.frame.ensures.value) in
-        let more = front_more frames i frame within w.in-Some.ensures.item in
-        record {
-          end = c.loop-place.invariant.end;
-          tally = rw (w.tally-is, w.count.ensures, more) (tally_more device.objects (take i frames) frame c.loop-place.tally to c.loop-place.invariant.tally goes (λ q is. omega (arith, below q is, c.requires.few)));
-          sinks = rw (w.rack-is, more) (got_more device.caps.pairs device.objects (take i frames) frame to c.loop-place.invariant.sinks w.in_ok-deliver.ensures.ok goes below);
-        }
+          let frame = w.in-Some.frame.now in
+          let to = w.queue_of-queue.result in
+          let below = λ (q : ℕ) (is : to ≡ Some q). queue_within w.frame.result device.caps.pairs c.requires.some w.frame.ensures.queue q (sym w.queue_of-queue.ensures ∙ is) in
+          let goes = sym (w.queue_of-queue.ensures ∙ ap queue_of w.frame.ensures.value) in
+          let more = front_more frames i frame within w.in-Some.ensures.item in
+          record {
+            end = c.loop-place.invariant.end;
+            tally = rw (w.tally-is, w.count.ensures, more) (tally_more device.objects (take i frames) frame c.loop-place.tally to c.loop-place.invariant.tally goes (λ q is. omega (arith, below q is, c.requires.few)));
+            sinks = rw (w.rack-is, more) (got_more device.caps.pairs device.objects (take i frames) frame to c.loop-place.invariant.sinks w.in_ok-deliver.ensures.ok goes below);
+          }
       | in_default w ↦ absurd (packet_is_there frames i within w.in_default.ensures.item)
     ]
 

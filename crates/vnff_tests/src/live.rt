@@ -1,0 +1,122 @@
+//! A live run whose workers go on beside its commands.
+
+use rx_sinks::{CountSink, Rack, RxSink};
+use std::alloc::{AllocError, Global};
+use std::sync::atomic::{AtomicU64, Ordering};
+use std::test::Fail;
+use std::thread;
+use steer::Gate;
+use vnff_base::{MemOut, MemShelf};
+use vnff_run::{DONE, top};
+
+// A group, a classifier and a rule are created.
+const SCRIPT: &[u8] = b"\
+    vnff 1\n\
+    device 4 2 4 8 8 15 3 ready\n\
+    admin 0a0000000000000000000000000000000000000000000000000200000100000000000000000000000500 8\n\
+    admin 0a0000000000000000000000000000000000000000000000010200000700000000000000000000000100000000000000010000000e000000000000000000000000000000ffff 8\n\
+    admin 0a0000000000000000000000000000000000000000000000020200000900000000000000000000000100000007000000000e0200020000000000000000000000000000000800 8\n\
+    ";
+
+// Two frames, which the last command's rule sends to queue 1.
+const CAPTURE: &[u8] = b"\xd4\xc3\xb2\xa1\x02\0\x04\0\0\0\0\0\0\0\0\0\0\0\x04\0\x01\0\0\0\
+    \0\0\0\0\0\0\0\0\x0e\0\0\0\x0e\0\0\0\xff\xff\xff\xff\xff\xff\x02\0\0\0\0\x01\x08\0\
+    \0\0\0\0\0\0\0\0\x0e\0\0\0\x0e\0\0\0\xff\xff\xff\xff\xff\xff\x02\0\0\0\0\x01\x08\0";
+
+const REPLIES: &[u8] = b"reply 0000000000000000\nreply 0000000000000000\nreply 0000000000000000\n";
+
+// The most turns of a wait.
+const TURNS: u32 = 10_000_000;
+
+// The second command waits until the second frame's turn has come, which waits until that of the third command has: on
+// one thread, one of both waits in vain.
+#[derive(Drop)]
+struct InTurn {
+    frame: AtomicU64,
+    command: AtomicU64,
+    late: AtomicU64,
+}
+
+impl InTurn {
+    fn new() -> InTurn {
+        InTurn {
+            frame: AtomicU64::new(0),
+            command: AtomicU64::new(0),
+            late: AtomicU64::new(0),
+        }
+    }
+
+    // Waits for a mark, for so many turns at most.
+    fn wait_for(&self, mark: &AtomicU64) {
+        for _ in 0..TURNS {
+            if mark.load(Ordering::SeqCst) == 1 {
+                return;
+            }
+            thread::yield_now();
+        }
+        self.late.store(1, Ordering::SeqCst);
+    }
+}
+
+impl Gate for InTurn {
+    fn before_command(&self, n: u32) {
+        if n == 1 {
+            self.wait_for(&self.frame);
+        }
+        if n == 2 {
+            self.command.store(1, Ordering::SeqCst);
+        }
+    }
+
+    fn before_frame(&self, _worker: u8, i: u64) {
+        if i == 1 {
+            self.frame.store(1, Ordering::SeqCst);
+            self.wait_for(&self.command);
+        }
+    }
+}
+
+fn words(alloc: Global) -> Result<Vec<String>, AllocError> {
+    let mut words = Vec::new(alloc);
+    for word in ["live", "1", "1", "script", "capture"] {
+        words.push(String::from_str(alloc, word)?)?;
+    }
+    Ok(words)
+}
+
+fn rack(alloc: Global) -> Result<Rack, AllocError> {
+    let mut sinks: Vec<Box<dyn RxSink>> = Vec::new(alloc);
+    for _ in 0..16 {
+        sinks.push(Box::new(alloc, CountSink::new())?)?;
+    }
+    Ok(Rack::new(sinks))
+}
+
+#[test]
+fn workers_go_on_beside_commands(rt: HostRuntime) -> Result<(), Fail> {
+    let alloc = rt.alloc();
+    let mut shelf = MemShelf::new(alloc);
+    shelf.add("script", SCRIPT)?;
+    shelf.add("capture", CAPTURE)?;
+    let mut out = MemOut::new(alloc, 256)?;
+    let gate = InTurn::new();
+    let words = words(alloc)?;
+    let mut rack = rack(alloc)?;
+    let status = top(
+        &rt,
+        alloc,
+        words.as_slice(),
+        &mut shelf,
+        &mut out,
+        &mut rack,
+        &gate,
+    );
+    assert_eq!(rt; status, DONE);
+    assert_eq!(rt; gate.late.load(Ordering::SeqCst), 0);
+    let packets = out.bytes().strip_prefix(REPLIES);
+    assert!(rt;
+        packets == Some(b"packet 0 after 1 default\npacket 1 after 2 default\n".as_slice())
+            || packets == Some(b"packet 0 after 1 default\npacket 1 after 3 queue 1\n".as_slice())
+    );
+    Ok(())
+}
