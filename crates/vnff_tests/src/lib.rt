@@ -22,6 +22,8 @@ mod numbers;
 #[cfg(test)]
 mod run;
 #[cfg(test)]
+mod steered;
+#[cfg(test)]
 mod store;
 #[cfg(test)]
 mod tables;
