@@ -27,6 +27,8 @@ mod published;
 #[cfg(test)]
 mod run;
 #[cfg(test)]
+mod steered;
+#[cfg(test)]
 mod store;
 #[cfg(test)]
 mod tables;

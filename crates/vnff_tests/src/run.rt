@@ -1,13 +1,14 @@
 //! Scripts, and the program's call.
 
 use ff_headers::Kind;
+use rx_sinks::{CountSink, Rack, RxSink};
 use std::alloc::{AllocError, Global};
 use std::test::Fail;
 use vnff_base::{MemOut, MemShelf};
 use vnff_run::{DONE, Item, Reason, ScriptFault, WRITE_FAULT, plain, read_script};
 
 // A group, a classifier and a rule are created, and a frame goes to the rule's queue.
-const SCRIPT: &[u8] = b"\
+pub const SCRIPT: &[u8] = b"\
     vnff 1\n\
     device 4 2 4 8 8 15 3 ready\n\
     admin 0a0000000000000000000000000000000000000000000000000200000100000000000000000000000500 8\n\
@@ -35,13 +36,27 @@ fn shelf(alloc: Global) -> Result<MemShelf, AllocError> {
     Ok(shelf)
 }
 
+/// What the program's call answers, over sinks that keep nothing.
+fn status(
+    alloc: Global,
+    words: &[String],
+    shelf: &mut MemShelf,
+    out: &mut MemOut,
+) -> Result<u8, AllocError> {
+    let mut sinks: Vec<Box<dyn RxSink>> = Vec::new(alloc);
+    for _queue in 0..16u8 {
+        sinks.push(Box::new(alloc, CountSink::new())?)?;
+    }
+    Ok(plain(alloc, words, shelf, out, &mut Rack::new(sinks)))
+}
+
 #[test]
 fn replays_a_script(rt: HostRuntime) -> Result<(), Fail> {
     let alloc = rt.alloc();
     let mut out = MemOut::new(alloc, 1024)?;
     let words = words(alloc, "replay", "script")?;
     assert_eq!(rt;
-        plain(alloc, words.as_slice(), &mut shelf(alloc)?, &mut out),
+        status(alloc, words.as_slice(), &mut shelf(alloc)?, &mut out)?,
         DONE
     );
     assert_eq!(rt; out.bytes(), WRITTEN);
@@ -55,7 +70,7 @@ fn ends_where_the_first_write_fails(rt: HostRuntime) -> Result<(), Fail> {
     out.fail_at(0)?;
     let words = words(alloc, "replay", "script")?;
     assert_eq!(rt;
-        plain(alloc, words.as_slice(), &mut shelf(alloc)?, &mut out),
+        status(alloc, words.as_slice(), &mut shelf(alloc)?, &mut out)?,
         WRITE_FAULT
     );
     assert!(rt; WRITTEN.starts_with(out.bytes()));
@@ -75,7 +90,7 @@ fn drains_a_queue(rt: HostRuntime) -> Result<(), Fail> {
     for word in ["drain", "image", "1", "0", "16", "24"] {
         words.push(String::from_str(alloc, word)?)?;
     }
-    assert_eq!(rt; plain(alloc, words.as_slice(), &mut shelf, &mut out), DONE);
+    assert_eq!(rt; status(alloc, words.as_slice(), &mut shelf, &mut out)?, DONE);
     assert_eq!(rt; out.bytes(), b"chain 0 - 0\nend 1\n".as_slice());
     Ok(())
 }
