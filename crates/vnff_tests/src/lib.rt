@@ -16,8 +16,9 @@ mod device;
 #[cfg(test)]
 mod headers;
 #[cfg(test)]
-mod loads;
 mod live;
+#[cfg(test)]
+mod loads;
 #[cfg(test)]
 mod maps;
 #[cfg(test)]
