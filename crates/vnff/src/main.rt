@@ -12,6 +12,8 @@ use std::env;
 use std::io::ErrorKind;
 use std::process::ExitCode;
 use std::rt::Env;
+use std::sync::Wait;
+use std::thread::Threads;
 use steer::Open;
 use vnff_base::{DirShelf, FileOut, StdOut};
 use vnff_run::{FAULTY_WORDS, NO_MEMORY, top};
@@ -31,8 +33,9 @@ fn words<R: Env + AllocGlobal>(rt: &R) -> Result<Vec<String>, u8>
 }
 
 /// Runs the program over real files and standard output, and gives its exit status. The frames of queue Q go to the
-/// file `rx-Q.pcap`, which is made or emptied when the first of its bytes is written.
-fn run(rt: &HostRuntime) -> Result<u8, AllocError>
+/// file `rx-Q.pcap`, which is made or emptied when the first of its bytes is written. The workers of a live run get their
+/// threads from `threads`.
+fn run<T: Threads + Wait + Sync>(rt: &HostRuntime, threads: &T) -> Result<u8, AllocError>
     ensures { IfOk result (λ status. status ≤ 5) }
 {
     let words = match words(rt) {
@@ -46,7 +49,7 @@ fn run(rt: &HostRuntime) -> Result<u8, AllocError>
         sinks.push(Box::new(rt.alloc(), sink)?)?;
     }
     Ok(top(
-        rt,
+        threads,
         rt.alloc(),
         words.as_slice(),
         &mut DirShelf::new(rt),
@@ -57,5 +60,5 @@ fn run(rt: &HostRuntime) -> Result<u8, AllocError>
 }
 
 fn main(rt: HostRuntime) -> ExitCode {
-    ExitCode::from(run(&rt).unwrap_or(NO_MEMORY))
+    ExitCode::from(run(&rt, &rt).unwrap_or(NO_MEMORY))
 }

@@ -14,6 +14,8 @@ mod compiled;
 #[cfg(test)]
 mod device;
 #[cfg(test)]
+mod failing;
+#[cfg(test)]
 mod headers;
 #[cfg(test)]
 mod live;

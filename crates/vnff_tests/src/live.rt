@@ -2,9 +2,10 @@
 
 use rx_sinks::{CountSink, Rack, RxSink};
 use std::alloc::{AllocError, Global};
+use std::sync::Wait;
 use std::sync::atomic::{AtomicU64, Ordering};
 use std::test::Fail;
-use std::thread;
+use std::thread::{self, Threads};
 use steer::Gate;
 use vnff_base::{MemOut, MemShelf};
 use vnff_run::{DONE, top};
@@ -84,12 +85,21 @@ fn words(alloc: Global) -> Result<Vec<String>, AllocError> {
     Ok(words)
 }
 
-fn rack(alloc: Global) -> Result<Rack, AllocError> {
+/// What the program's call answers, over sinks that keep nothing.
+pub fn status<R: Threads + Wait + Sync, G: Gate>(
+    rt: &R,
+    alloc: Global,
+    words: &[String],
+    shelf: &mut MemShelf,
+    out: &mut MemOut,
+    gate: &G,
+) -> Result<u8, AllocError> {
     let mut sinks: Vec<Box<dyn RxSink>> = Vec::new(alloc);
-    for _ in 0..16 {
+    for _queue in 0..16u8 {
         sinks.push(Box::new(alloc, CountSink::new())?)?;
     }
-    Ok(Rack::new(sinks))
+    let mut rack = Rack::new(sinks);
+    Ok(top(rt, alloc, words, shelf, out, &mut rack, gate))
 }
 
 #[test]
@@ -101,17 +111,10 @@ fn workers_go_on_beside_commands(rt: HostRuntime) -> Result<(), Fail> {
     let mut out = MemOut::new(alloc, 256)?;
     let gate = InTurn::new();
     let words = words(alloc)?;
-    let mut rack = rack(alloc)?;
-    let status = top(
-        &rt,
-        alloc,
-        words.as_slice(),
-        &mut shelf,
-        &mut out,
-        &mut rack,
-        &gate,
+    assert_eq!(rt;
+        status(&rt, alloc, words.as_slice(), &mut shelf, &mut out, &gate)?,
+        DONE
     );
-    assert_eq!(rt; status, DONE);
     assert_eq!(rt; gate.late.load(Ordering::SeqCst), 0);
     let packets = out.bytes().strip_prefix(REPLIES);
     assert!(rt;

@@ -36,8 +36,8 @@ fn shelf(alloc: Global) -> Result<MemShelf, AllocError> {
     Ok(shelf)
 }
 
-/// What the program's call answers, over sinks that keep nothing.
-fn status(
+/// What the call of all forms but `live` answers, over sinks that keep nothing.
+pub fn status(
     alloc: Global,
     words: &[String],
     shelf: &mut MemShelf,
@@ -90,7 +90,10 @@ fn drains_a_queue(rt: HostRuntime) -> Result<(), Fail> {
     for word in ["drain", "image", "1", "0", "16", "24"] {
         words.push(String::from_str(alloc, word)?)?;
     }
-    assert_eq!(rt; status(alloc, words.as_slice(), &mut shelf, &mut out)?, DONE);
+    assert_eq!(rt;
+        status(alloc, words.as_slice(), &mut shelf, &mut out)?,
+        DONE
+    );
     assert_eq!(rt; out.bytes(), b"chain 0 - 0\nend 1\n".as_slice());
     Ok(())
 }

@@ -11,6 +11,7 @@ use vnff_run::{DONE, WRITE_FAULT, plain};
 const HEADER: [u8; 24] = [
     0xd4, 0xc3, 0xb2, 0xa1, 2, 0, 4, 0, 0, 0, 0, 0, 0, 0, 0, 0, 0, 0, 4, 0, 1, 0, 0, 0,
 ];
+
 const RECORD: [u8; 30] = [
     0, 0, 0, 0, 0, 0, 0, 0, 14, 0, 0, 0, 14, 0, 0, 0, 255, 255, 255, 255, 255, 255, 2, 0, 0, 0, 0,
     1, 8, 0,
@@ -19,7 +20,7 @@ const RECORD: [u8; 30] = [
 const WRITTEN: &[u8] = b"queue 0 1\nqueue 1 2\nqueue 2 0\nqueue 3 0\ndrop 0\n";
 
 /// The capture of a frame for queue 1, one that no rule matches, and the first one again.
-fn capture(alloc: Global) -> Result<Vec<u8>, AllocError> {
+pub fn capture(alloc: Global) -> Result<Vec<u8>, AllocError> {
     let mut bytes = Vec::new(alloc);
     bytes.extend_from_slice(&HEADER)?;
     for last in [0, 6, 0] {
@@ -42,7 +43,8 @@ struct Run {
 /// How many frames a sink gives, of at most two.
 fn held(rack: &Rack, queue: u16) -> usize {
     (0..2)
-        .filter(|place| usize::from(queue) < rack.queue_count() && rack.told(queue, *place).is_some())
+        .filter(|place| usize::from(queue) < rack.queue_count()
+            && rack.told(queue, *place).is_some())
         .count()
 }
 

@@ -3,4 +3,4 @@ use Rattle.std.proofs.Common.{◌≡◌, length}
 use Rattle.vnff.proofs.run.Given as goal
 
 abbrev pub invariant-loop-queue : goal.invariant-loop-queue
-invariant-loop-queue l = length l.sinks.items ≡ l.queue-counter
+invariant-loop-queue g l = length l.sinks.items ≡ l.queue-counter
