@@ -1,37 +1,12 @@
-//! Tests of the public calls of the crates below: each call once on its happy path, since a body that always wants
-//! memory is proved too, and what no clause says. Nothing stands on this crate, so that no other is proved a second
-//! time for its tests.
+//! Tests of the program's calls: each once on its happy path, since a body that always wants memory is proved too, and
+//! what no clause says. Nothing stands on this crate, so that no other is proved a second time for its tests.
 #![tactic(auto)]
 
 #[cfg(test)]
-mod bench;
-#[cfg(test)]
-mod capabilities;
-#[cfg(test)]
-mod commands;
-#[cfg(test)]
-mod compiled;
-#[cfg(test)]
-mod device;
-#[cfg(test)]
 mod failing;
 #[cfg(test)]
-mod headers;
-#[cfg(test)]
 mod live;
-#[cfg(test)]
-mod loads;
-#[cfg(test)]
-mod maps;
-#[cfg(test)]
-mod numbers;
-#[cfg(test)]
-mod published;
 #[cfg(test)]
 mod run;
 #[cfg(test)]
 mod steered;
-#[cfg(test)]
-mod store;
-#[cfg(test)]
-mod tables;
