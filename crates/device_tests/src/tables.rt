@@ -20,7 +20,7 @@ const LIMITS: Limits = Limits {
     selectors: 1,
 };
 
-/// What is found, and no step counted.
+/// What is found. The steps are counted for contracts alone, and nobody asks for their number here.
 fn found<L: Ledger>(tables: &Tables, frame: &[u8], blank: Blank) -> Found
     requires name { blank.name ≡ L.name }
     requires parts { blank.parts ≡ L.parts }
