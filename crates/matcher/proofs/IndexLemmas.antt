@@ -71,11 +71,12 @@ module _ (limits : Limits) (objects : FlowObjects) (well : IsWellFormed limits o
       let most = rows_room (with_kept kept id None) shapes rows was id (keys_of (put objects.rules id rule)) (kept_at kept id None) (λ q one is. key_held (put objects.rules id rule) q (held_once_put objects.rules id rule q (held q one (kept_before kept id q one is)).0)) (key_held (put objects.rules id rule) id (held_that_is_put objects.rules id rule)) in
       omega arith
 
+module _ (limits : Limits) (objects : FlowObjects) (well : IsWellFormed limits objects) (kept : ℕ → Option Kept) (held : AreHeld objects kept) (shapes : List (List SelectorParts)) (rows : List Row) (was : AreRows kept shapes rows) where
   pub shape_fits : (classifier : ℕ) (selectors : List SelectorParts) → object_under objects.classifiers classifier ≡ Some selectors → IsNew shapes selectors → AreUsed shapes rows → length shapes < limits.classifiers
   shape_fits classifier selectors is new used =
       let long = length-map objects.classifiers (λ (e : ℕ × List SelectorParts). shape_of e.1) in
       let fits = well.within.classifiers_fit in
-      let most = shapes_room (with_kept kept id None) shapes rows was selectors (held_shapes objects) new used (λ q one is. (held q one (kept_before kept id q one is)).1) (shape_held objects classifier selectors is) in
+      let most = shapes_room kept shapes rows was selectors (held_shapes objects) new used (λ q one is. (held q one is).1) (shape_held objects classifier selectors is) in
       omega arith
 
 -- ---- what is kept of held rules is held

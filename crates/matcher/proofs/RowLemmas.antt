@@ -9,7 +9,8 @@ use Rattle.std.specs.Cmp.{IsTotalOrder, nat_cmp_total, tied_itself}
 use Rattle.std.specs.Cmp.Lexicographic.{slice_cmp}
 use Rattle.std.proofs.lemmas.Cmp.{nat_list_cmp_total}
 use Rattle.std.proofs.lemmas.Bool.Decides.{nat_tests}
-use Rattle.std.proofs.lemmas.List.{get_or_default}
+use Rattle.std.proofs.lemmas.List.{get_or_default, length-set, get_or-set_same, get_or-set_other}
+use Rattle.std.proofs.Math.ListN.{set}
 use Rattle.std.proofs.lemmas.List.Edits.{length-insert, length-remove, get_or-insert_below, get_or-insert_at, get_or-insert_above, get_or-remove_below, get_or-remove_above}
 use Rattle.ff_headers.specs.SelectorParts.{SelectorParts}
 use Rattle.ff_headers.specs.Places.{place_cmp}
@@ -158,6 +159,88 @@ module _ (kept : ℕ → Option Kept) (shapes : List (List SelectorParts)) (rows
           let c = was.complete q one is in
           let off : c.1.0 ≢ p = (λ h. absurd (let same : q ≡ id = sym c.2 ∙ ap id_of (sym c.1.2 ∙ get_or_default rows c.1.0 c.0 d c.1.1 ∙ ap (λ (n : ℕ). get_or rows n d) h) ∙ at in grind (arith, nat_tests))) in
           (c.0, to_removed c.1.0 c.0 c.1.1 off c.1.2, c.2)
+
+    by_place : (k : ℕ) → (k ≡ p) ⊎ (k ≢ p)
+    by_place k = elim (cases_lt k p) [
+      | inl lt ↦ inr (λ e. omega arith)
+      | inr ge ↦ elim (cases_lt p k) [
+        | inl lt ↦ inr (λ e. omega arith)
+        | inr le ↦ inl (omega arith)
+      ]
+    ]
+
+    -- ---- a row takes another's place
+
+    module _ (row : Row) (before : (i : ℕ) (e : Row) → i < p → row_cmp (get_or rows i e) row ≡ Less) (behind : (j : ℕ) (e : Row) → p < j → j < length rows → row_cmp row (get_or rows j e) ≡ Less) where
+      rising_replaced : AreRising (set rows p row)
+      rising_replaced i j e lt within =
+          let long = length-set rows p row in
+          elim (cases_lt i p) [
+            | inl a ↦
+                let off : i ≢ p = (λ h. omega arith) in
+                elim (by_place j) [
+                  | inl same ↦ rw (get_or-set_other rows p i row e off, ap (λ (n : ℕ). get_or (set rows p row) n e) same ∙ get_or-set_same rows p row e inside) (before i e a)
+                  | inr off' ↦ rw (get_or-set_other rows p i row e off, get_or-set_other rows p j row e off') (was.rising i j e lt (omega arith))
+                ]
+            | inr a ↦
+                let off' : j ≢ p = (λ h. omega arith) in
+                elim (by_place i) [
+                  | inl same ↦ rw (ap (λ (n : ℕ). get_or (set rows p row) n e) same ∙ get_or-set_same rows p row e inside, get_or-set_other rows p j row e off') (behind j e (omega arith) (omega arith))
+                  | inr off ↦ rw (get_or-set_other rows p i row e off, get_or-set_other rows p j row e off') (was.rising i j e lt (omega arith))
+                ]
+          ]
+
+      from_replaced : (other : Row) → Contains (set rows p row) other → (other ≡ row) ⊎ ((j : ℕ) × (j < length rows) × (j ≢ p) × (get_or rows j other ≡ other))
+      from_replaced other has =
+          let long = length-set rows p row in
+          elim (by_place has.0) [
+            | inl same ↦ inl (sym has.2 ∙ ap (λ (n : ℕ). get_or (set rows p row) n other) same ∙ get_or-set_same rows p row other inside)
+            | inr off ↦ inr (has.0, omega (arith, has.1), off, sym (get_or-set_other rows p has.0 row other off) ∙ has.2)
+          ]
+
+      pub rows_replaced : (id : ℕ) (one : Kept) → id_of (get_or rows p d) ≡ id → id_of row ≡ id → IsRow shapes row one → AreRows (with_kept kept id (Some one)) shapes (set rows p row)
+      rows_replaced id one at is_id is_row = record {
+        apart = was.apart;
+        rising = rising_replaced;
+        sound = λ other has. elim (from_replaced other has) [
+          | inl same ↦ let t : eqb (id_of other) id ≡ true = (let e : id_of other ≡ id = ap id_of same ∙ is_id in grind (arith, nat_tests)) in (one, rw t refl, rw same is_row)
+          | inr from ↦
+              let here : get_or rows from.0 d ≡ other = get_or_default rows from.0 d other from.1 ∙ from.3 in
+              let off : id_of other ≢ id = (λ e. from.2 (ids_apart from.0 p d from.1 inside (ap id_of here ∙ e ∙ sym at))) in
+              let s = was.sound other (from.0, from.1, from.3) in
+              (s.0, kept_elsewhere id (id_of other) (Some one) off ∙ s.1, s.2)
+        ];
+        complete = λ q two is. by_test q two (eqb q id) refl is;
+      } where
+        by_test : (q : ℕ) (two : Kept) (b : Bool) → eqb q id ≡ b → cond b (Some one) (kept q) ≡ Some two → (other : Row) × Contains (set rows p row) other × (id_of other ≡ q)
+        by_test q two true e is =
+            let same : q ≡ id = grind (arith, nat_tests) in
+            let long = length-set rows p row in
+            (row, (p, omega arith, get_or-set_same rows p row row inside), is_id ∙ sym same)
+        by_test q two false e is =
+            let c = was.complete q two is in
+            let long = length-set rows p row in
+            let off : c.1.0 ≢ p = (λ h. absurd (let same : q ≡ id = sym c.2 ∙ ap id_of (sym c.1.2 ∙ get_or_default rows c.1.0 c.0 d c.1.1 ∙ ap (λ (n : ℕ). get_or rows n d) h) ∙ at in grind (arith, nat_tests))) in
+            (c.0, (c.1.0, omega (arith, c.1.1), get_or-set_other rows p c.1.0 row c.0 off ∙ c.1.2), c.2)
+
+    -- a row that stands between those beside a place stands between all before and all behind
+    pub before_all : (row : Row) → ((e : Row) → 0 < p → stands_before (get_or rows (p - 1) e) row ≡ true) → (i : ℕ) (e : Row) → i < p → row_cmp (get_or rows i e) row ≡ Less
+    unfolding stands_before
+    before_all row beside i e lt =
+        let next = less_from_test _ (beside e (omega arith)) in
+        elim (cases_lt i (p - 1)) [
+          | inl a ↦ row_total.trans (get_or rows i e) (get_or rows (p - 1) e) row (was.rising i (p - 1) e a (omega arith)) next
+          | inr a ↦ let same : i ≡ p - 1 = omega arith in ap (λ (n : ℕ). row_cmp (get_or rows n e) row) same ∙ next
+        ]
+
+    pub behind_all : (row : Row) → ((e : Row) → p + 1 < length rows → stands_before row (get_or rows (p + 1) e) ≡ true) → (j : ℕ) (e : Row) → p < j → j < length rows → row_cmp row (get_or rows j e) ≡ Less
+    unfolding stands_before
+    behind_all row beside j e lt within =
+        let next = less_from_test _ (beside e (omega arith)) in
+        elim (cases_lt (p + 1) j) [
+          | inl a ↦ row_total.trans row (get_or rows (p + 1) e) (get_or rows j e) next (was.rising (p + 1) j e a within)
+          | inr a ↦ let same : j ≡ p + 1 = omega arith in ap (λ (n : ℕ). row_cmp row (get_or rows n e)) same ∙ next
+        ]
 
   -- no row is of a rule that is dropped
   pub rows_without : (id : ℕ) → ((row : Row) → Contains rows row → id_of row ≢ id) → AreRows (with_kept kept id None) shapes rows

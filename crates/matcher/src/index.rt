@@ -1,20 +1,22 @@
 //! The rows of the rules that a store holds, with the shapes of their classifiers.
 
-ghost use Rattle.std.specs.Prelude.{◌≡◌, ℕ, ◌<◌, ◌≤◌, Option, Some, None, true, IfOk, length, slice_get, vec_len, vec_capacity};
+ghost use Rattle.std.specs.Prelude.{◌≡◌, ℕ, ◌<◌, ◌≤◌, Option, Some, None, true, IfOk, IfSome, Contains, ◌≢◌, length, slice_get, vec_len, vec_capacity};
 ghost use Rattle.ff_headers.specs.Matching.{key_size};
 ghost use Rattle.ff_headers.specs.Objects.{IsWellFormed, IsBacked, no_objects};
 ghost use Rattle.ff_headers.specs.Changes.{has_room, is_sound, step, with_change_made};
 ghost use Rattle.ff_headers.specs.declared.change.Change.TheVariants as changes;
 ghost use Rattle.ff_headers.specs.Places.{RuleEntry};
-ghost use Rattle.matcher.specs.Rows.{Kept, with_kept, candidate_with, kept_with, kept_by, kept_under, moved, AreHeld, AreRows, AreRising, AreApart, IsNew, AreUsed};
+ghost use Rattle.matcher.specs.Keys.{masked_key};
+ghost use Rattle.matcher.specs.declared.rows.Row.{Row};
+ghost use Rattle.matcher.specs.Rows.{Kept, id_of, with_kept, candidate_with, kept_with, kept_by, kept_under, moved, AreHeld, AreRows, AreRising, AreApart, IsNew, AreUsed};
 ghost use Rattle.matcher.specs.Searches.{FitsRow, FitsBelow, IsFirstAmong, IsShapeCost, IsTotalCost};
 ghost use Rattle.matcher.specs.Indexes.{IsIndex};
 
 use crate::keys::{frame_key, masked_key};
-use crate::rows::{Row, drop_row, put_row};
+use crate::rows::{Row, drop_row, place_for, set_row};
 use crate::scan::{Candidate, action_with, earlier};
 use crate::search::first_with;
-use crate::shapes::number_for;
+use crate::shapes::{number_for, number_of};
 use ff_headers::{Change, Headers, Limits, RuleObj, Selectors, Steps};
 use ff_store::Store;
 use std::alloc::{AllocError, Global};
@@ -88,7 +90,7 @@ impl RowIndex {
         }
         match change {
             Change::PutRule(id, rule) => self.put_rule(store, *id, rule),
-            Change::DropRule(id) => drop_row(&mut self.rows, *id),
+            Change::DropRule(id) => self.drop_rule(store, *id),
             Change::PutGroup(id, priority) => self.move_group(store, *id, *priority),
             Change::DropGroup(_) => {}
             Change::PutClassifier(_, _) => {}
@@ -106,6 +108,16 @@ impl RowIndex {
     {
         let group_priority = store.group_priority(rule.group()).unwrap_or(0);
         self.renew(store, id, rule, group_priority);
+    }
+
+    /// A drop of a rule.
+    fn drop_rule(&mut self, store: &Store, id: u32)
+        requires { IsWellFormed store.now.limits store.now.objects }
+        ensures { (kept : ℕ → Option Kept) → IsIndex store.now.limits kept self.old
+            → IsIndex store.now.limits (with_kept kept id None) self.new }
+    {
+        let likely = self.likely_place(store, id).unwrap_or(0);
+        drop_row(&mut self.rows, id, likely);
     }
 
     /// A group's rules take another priority.
@@ -143,35 +155,76 @@ impl RowIndex {
         ensures { (kept : ℕ → Option Kept) → IsIndex store.now.limits kept self.old
             → IsIndex store.now.limits (with_kept kept id (kept_by store.now.objects group_priority (id, rule.now))) self.new }
     {
-        drop_row(&mut self.rows, id);
         if let Some(selectors) = store.selectors(rule.classifier()) {
-            self.put(id, rule, selectors, group_priority);
+            let likely = self.likely_place(store, id).unwrap_or(0);
+            self.put(id, rule, selectors, group_priority, likely);
         }
     }
 
-    /// Keeps a rule under an id that has none. There is room for it.
-    fn put(&mut self, id: u32, rule: &RuleObj, selectors: &Selectors, group_priority: u16)
+    /// Keeps a rule under an id. Where none is kept under it, there is room for it.
+    fn put(
+        &mut self,
+        id: u32,
+        rule: &RuleObj,
+        selectors: &Selectors,
+        group_priority: u16,
+        likely: usize,
+    )
         requires key_fits { length rule.now.key ≡ key_size selectors.now }
-        requires row_fits { vec_len self.old.rows < vec_capacity self.old.rows }
+        requires row_fits { ((held : Row) → Contains self.old.rows.items held → id_of held ≢ id)
+            → length self.old.rows.items < vec_capacity self.old.rows }
         requires shape_fits { IsNew self.old.shapes.items selectors.now → AreUsed self.old.shapes.items self.old.rows.items
             → vec_len self.old.shapes < vec_capacity self.old.shapes }
-        ensures rows { (kept : ℕ → Option Kept) → AreRows kept self.old.shapes.items self.old.rows.items → kept id ≡ None
+        ensures rows { (kept : ℕ → Option Kept) → AreRows kept self.old.shapes.items self.old.rows.items
             → AreRows (with_kept kept id (Some (kept_with group_priority (id, rule.now) selectors.now)))
             self.new.shapes.items self.new.rows.items }
         ensures rows_room { vec_capacity self.new.rows ≡ vec_capacity self.old.rows }
         ensures shapes_room { vec_capacity self.new.shapes ≡ vec_capacity self.old.shapes }
     {
         let shape = number_for(&mut self.shapes, &self.rows, selectors);
-        let key = masked_key(selectors, rule.key());
-        let candidate = candidate_with(group_priority, id, rule);
-        put_row(
-            &mut self.rows,
-            Row {
-                shape,
-                key,
-                candidate,
-            },
-        );
+        let row = row_with(shape, selectors, group_priority, id, rule);
+        set_row(&mut self.rows, row, likely);
+    }
+
+    /// Where the row of the rule that a store holds under an id stands, unless it has moved.
+    fn likely_place(&self, store: &Store, id: u32) -> Option<usize>
+        requires { IsWellFormed store.now.limits store.now.objects }
+        ensures { IfSome result (λ place. place ≤ length self.now.rows.items) }
+    {
+        let rule = store.rule(id)?;
+        self.place_with(store, id, rule)
+    }
+
+    /// Where the row of a rule under an id goes by the store's groups and classifiers.
+    fn place_with(&self, store: &Store, id: u32, rule: &RuleObj) -> Option<usize>
+        requires { IsBacked store.now.objects rule.now }
+        ensures { IfSome result (λ place. place ≤ length self.now.rows.items) }
+    {
+        let selectors = store.selectors(rule.classifier())?;
+        let group_priority = store.group_priority(rule.group())?;
+        let shape = number_of(&self.shapes, selectors)?;
+        let row = row_with(shape, selectors, group_priority, id, rule);
+        Some(place_for(&self.rows, &row))
+    }
+}
+
+/// The row of a rule with these selectors, whose group has a priority.
+fn row_with(
+    shape: usize,
+    selectors: &Selectors,
+    group_priority: u16,
+    id: u32,
+    rule: &RuleObj,
+) -> Row
+    requires { length rule.now.key ≡ key_size selectors.now }
+    ensures shape { result.shape ≡ shape }
+    ensures key { result.key.items ≡ masked_key selectors.now rule.now.key }
+    ensures candidate { result.candidate ≡ candidate_with group_priority (id, rule.now) }
+{
+    Row {
+        shape,
+        key: masked_key(selectors, rule.key()),
+        candidate: candidate_with(group_priority, id, rule),
     }
 }
 

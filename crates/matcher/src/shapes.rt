@@ -30,7 +30,7 @@ pub(crate) fn number_for(shapes: &mut Vec<Selectors>, rows: &[Row], selectors: &
 }
 
 /// The number of the selectors' shape, if it has one.
-fn number_of(shapes: &[Selectors], selectors: &Selectors) -> Option<usize>
+pub(crate) fn number_of(shapes: &[Selectors], selectors: &Selectors) -> Option<usize>
     ensures found { IfSome result (λ number. (number < length shapes.now)
         × (shape_of (selectors_at shapes.now number) ≡ shape_of selectors.now)) }
     ensures none { IfNone result (IsNew shapes.now selectors.now) }

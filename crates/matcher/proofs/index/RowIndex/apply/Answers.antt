@@ -1,7 +1,6 @@
 use Rattle.std.proofs.Common.{sym, ◌∙◌}
 use Rattle.matcher.specs.Rows.{kept_under}
 use Rattle.matcher.proofs.IndexLemmas.{same_index, index_stepped, index_unchanged, index_closed, rule_dropped, group_dropped, classifier_put, classifier_dropped}
-use Rattle.matcher.proofs.RowLemmas.{same_kept}
 use Rattle.matcher.proofs.index.RowIndex.apply.Goals as goal
 
 pub returns-then-not-is_sound : goal.returns-then-not-is_sound
@@ -19,12 +18,7 @@ pub returns-in-DropRule : goal.returns-in-DropRule
 returns-in-DropRule c =
     let sound = sym c.is_sound.ensures ∙ c.if-not-is_sound.false in
     let objects = c.args.store.now.objects in
-    let was = c.requires in
-    index_stepped _ _ _ _ sound (rw c.in-DropRule.is (record {
-      rows = same_kept _ _ c.args.self.now.shapes.items c.drop_row.new.rows.items (λ q. rule_dropped objects _ q c.limits-well_formed.ensures.well_formed.by_id.rules_rise) (c.drop_row.ensures.rows (kept_under objects) c.args.self.now.shapes.items was.rows);
-      rows_room = rw c.drop_row.ensures.room was.rows_room;
-      shapes_room = was.shapes_room;
-    }))
+    index_stepped _ _ _ _ sound (rw c.in-DropRule.is (same_index _ _ _ _ (λ q. rule_dropped objects _ q c.limits-well_formed.ensures.well_formed.by_id.rules_rise) (c.drop_rule.ensures (kept_under objects) c.requires)))
 
 pub returns-in-PutGroup : goal.returns-in-PutGroup
 returns-in-PutGroup c =
