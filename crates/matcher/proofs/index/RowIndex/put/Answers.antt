@@ -1,5 +1,5 @@
 use Rattle.std.proofs.Common.{sym, ap, ◌∙◌}
-use Rattle.matcher.specs.Rows.{Kept, kept_with}
+use Rattle.matcher.specs.Rows.{kept_with}
 use Rattle.matcher.specs.declared.scan.Candidate.{Candidate}
 use Rattle.matcher.proofs.index.RowIndex.put.Goals as goal
 

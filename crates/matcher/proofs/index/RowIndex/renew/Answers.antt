@@ -1,4 +1,4 @@
-use Rattle.std.proofs.Common.{◌≡◌, Some, None, sym, ap, ◌∙◌, arith}
+use Rattle.std.proofs.Common.{◌≡◌, Some, None, sym, ap, arith}
 use Rattle.std.specs.Option.{option_map}
 use Rattle.ff_headers.specs.Objects.{object_under}
 use Rattle.ff_headers.specs.Places.{RuleEntry}
