@@ -11,15 +11,16 @@ use Rattle.snapshots.specs.Law.{IsKept, Adds}
 use Rattle.snapshots.proofs.Beginnings.{prefix_whole}
 use Rattle.snapshots.proofs.Closing.{closes_last_more}
 
-abbrev pub shown : List Change → List Change
-shown log = []
+-- what the law shows of a list, and which moves it allows
+abbrev pub law_shows : List Change → List Change
+law_shows log = []
 
-abbrev pub moved : List Change → List Change → ℕ → Type 0
-moved xs ys n = Unit {0}
+abbrev pub law_moves : List Change → List Change → ℕ → Type 0
+law_moves xs ys n = Unit {0}
 
 adds_goes : (log v : List Change) (e : Change) (old : ℕ) → length v ≡ old → is_open v ≡ true → ClosesLast log → IsPrefix v log
     → (b : Bool) → (length log == old) ≡ b
-    → Goes IsKept shown moved 0 (v, (no_nib, None)) (λ n. either (n == old) (old + 1) n) (Adds (step 0 old (old + 1) e) (v, (no_nib, None))) ((length log, true) ∷ (0, true) ∷ []) log
+    → Goes IsKept law_shows law_moves 0 (v, (no_nib, None)) (λ n. either (n == old) (old + 1) n) (Adds (step 0 old (old + 1) e) (v, (no_nib, None))) ((length log, true) ∷ (0, true) ∷ []) log
 adds_goes log v e old len may legal pre true is =
     let here : length log ≡ old = grind (arith, nat_tests) in
     let same : v ≡ log = prefix_whole v log pre (omega arith) in
@@ -47,7 +48,7 @@ adds_goes log v e old len may legal pre false is =
 
 -- whatever the book is, the exchange logs the change behind all that was seen, or finds that the log is longer
 pub adds_moves : (v : List Change) (e : Change) (old : ℕ) → length v ≡ old → is_open v ≡ true
-    → Moves IsKept shown moved 0 (v, (no_nib, None)) (λ n. either (n == old) (old + 1) n) (Adds (step 0 old (old + 1) e) (v, (no_nib, None)))
+    → Moves IsKept law_shows law_moves 0 (v, (no_nib, None)) (λ n. either (n == old) (old + 1) n) (Adds (step 0 old (old + 1) e) (v, (no_nib, None)))
 adds_moves v e old len may cs log kept pre away =
-    let P : List Cell → Type 0 = λ c. (0 < length c) × ((cell c 0).1 ≡ true) × Goes IsKept shown moved 0 (v, (no_nib, None)) (λ n. either (n == old) (old + 1) n) (Adds (step 0 old (old + 1) e) (v, (no_nib, None))) c log in
+    let P : List Cell → Type 0 = λ c. (0 < length c) × ((cell c 0).1 ≡ true) × Goes IsKept law_shows law_moves 0 (v, (no_nib, None)) (λ n. either (n == old) (old + 1) n) (Adds (step 0 old (old + 1) e) (v, (no_nib, None))) c log in
     subst P (sym kept.words) (omega arith, refl, adds_goes log v e old len may kept.closes_last pre (length log == old) refl)

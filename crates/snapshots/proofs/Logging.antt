@@ -14,7 +14,7 @@ use Rattle.ff_headers.specs.declared.limits.Limits.{Limits}
 use Rattle.ff_headers.specs.declared.change.Change.{Change}
 use Rattle.snapshots.specs.Lists.{Covers}
 use Rattle.snapshots.specs.Reads.{IsRead, seen_after}
-use Rattle.snapshots.specs.Workers.{WorkerState, Logged, IsLogged, first_floor, noted}
+use Rattle.snapshots.specs.Workers.{WorkerState, Logged, IsLogged, first_floor, log_after}
 use Rattle.snapshots.specs.declared.seen.Seen.{Seen}
 use Rattle.snapshots.proofs.Beginnings.{prefix_self}
 
@@ -162,8 +162,8 @@ logged_more old new frames frame seen limits log read short h =
           h.rises i j a b less (ap (λ xs. slice_get xs i) (sym log_is) ∙ s) (ap (λ xs. slice_get xs j) (sym log_is) ∙ t);
     }
 
-pub noted_more : (log : List Seen) (spare : ℕ) (seen : Seen) → 0 < spare → noted log spare seen ≡ log ++ seen ∷ []
-noted_more log spare seen h = let e : nat_lt 0 spare ≡ true = grind (arith, nat_tests) in rw e refl
+pub log_after_more : (log : List Seen) (spare : ℕ) (seen : Seen) → 0 < spare → log_after log spare seen ≡ log ++ seen ∷ []
+log_after_more log spare seen h = let e : nat_lt 0 spare ≡ true = grind (arith, nat_tests) in rw e refl
 
 pub after_counted : (limits : Limits) (list floor : List Change) (k : ℕ) → IsPrefix floor list → k ≤ change_count floor
     → after limits floor k ≡ after limits list k

@@ -22,8 +22,10 @@ seen_after limits list headers = record {
   rule = (found_in (objects_after limits list) headers).rule;
 }
 
--- a read whose floors were `before` and are `now`: they are the one list that was entered, which covers each from before
-pub record IsRead (limits : Limits) (before now : List (List Change)) (headers : HeaderBytes) (seen : Seen) : Type 0 where
+-- a read whose floors were `before` and are `now`: they are the one list that was entered, which covers each from
+-- before
+pub record IsRead (limits : Limits) (before now : List (List Change)) (headers : HeaderBytes) (seen : Seen)
+    : Type 0 where
   pub list : List Change
   pub floors : now ≡ list ∷ []
   pub covers : All (Covers list) before

@@ -26,8 +26,8 @@ pub record WorkerState : Type 0 where
   pub spare : ℕ
 
 -- the log after one more read: it stands there where there was room
-abbrev pub noted : List Seen → ℕ → Seen → List Seen
-noted log spare seen = if nat_lt 0 spare then log ++ seen ∷ [] else log
+abbrev pub log_after : List Seen → ℕ → Seen → List Seen
+log_after log spare seen = if nat_lt 0 spare then log ++ seen ∷ [] else log
 
 -- the first list that each later read must begin with
 abbrev pub first_floor : List (List Change) → List Change
@@ -41,8 +41,8 @@ pub record IsLogged (limits : Limits) (list : List Change) (frame : List ℕ) (s
 -- the log stands for reads of these frames, in their order: the numbers of changes don't fall
 pub record Logged (worker : WorkerState) (frames : List (List ℕ)) : Type 0 where
   pub long : length worker.log ≡ length frames
-  pub each : (at : ℕ) (seen : Seen) (frame : List ℕ) → slice_get worker.log at ≡ Some seen → slice_get frames at ≡ Some frame
-      → IsLogged worker.limits (first_floor worker.floors) frame seen
+  pub each : (at : ℕ) (seen : Seen) (frame : List ℕ) → slice_get worker.log at ≡ Some seen
+      → slice_get frames at ≡ Some frame → IsLogged worker.limits (first_floor worker.floors) frame seen
   pub rises : (i j : ℕ) (a b : Seen) → i < j → slice_get worker.log i ≡ Some a → slice_get worker.log j ≡ Some b
       → a.after ≤ b.after
 

@@ -85,9 +85,14 @@ impl Model for PairDoor {
     ghost use Rattle.left_right.specs.Sides.{view as seat_view};
     ghost use Rattle.snapshots.specs.Doors.{KnowsTables};
 
-    ghost view = { λ d. record { identity = d.last.identity; limits = d.limits; floors = d.floors; refused = d.refused } };
+    ghost view = { λ d. record {
+      identity = d.last.identity;
+      limits = d.limits;
+      floors = d.floors;
+      refused = d.refused;
+    } };
 
-    ghost invariant = { λ d. IsSomeAnd d.reader (λ reader. KnowsTables d.last.identity d.limits (seat_view reader.place))
+    ghost invariant = { λ d. IsSomeAnd d.reader (λ r. KnowsTables d.last.identity d.limits (seat_view r.place))
         × All (λ floor. IsPrefix floor d.last.list) d.floors };
 }
 
@@ -157,7 +162,7 @@ fn read(
     let place = reader.take()?;
     match place.enter_as::<Enter>() {
         Ok(reading) => {
-            let answer = found::<Brand>(reading.get(), last, headers, Blank::new(1));
+            let answer = read_copy::<Brand>(reading.get(), last, headers, Blank::new(1));
             *reader = Some(reading.leave());
             answer
         }
@@ -169,7 +174,7 @@ fn read(
 }
 
 /// What a copy gives, where its list covers the last one.
-fn found<L: Ledger>(
+fn read_copy<L: Ledger>(
     shown: &Copied,
     last: &Trail,
     headers: &Headers,

@@ -13,8 +13,8 @@ use std::alloc::AllocError;
 use std::marker::Model;
 use std::sync::Wait;
 
-/// The end that publishes changes. Contracts see which tables they are, the limits that `open` was given, and the changes
-/// that were published. It is not `Drop`: close it, or end it.
+/// The end that publishes changes. Contracts see which tables they are, the limits that `open` was given, and the
+/// changes that were published. It is not `Drop`: close it, or end it.
 pub struct AdminEnd {
     published: Published,
 }

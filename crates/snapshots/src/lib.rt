@@ -12,8 +12,8 @@
 //!
 //! In specs/, `Lists` says what lists of changes are and what covers a floor, `Reads` what one read gives, `Ends` and
 //! `Workers` what contracts see of both sides, with when a log is Logged, and `Fresh` what `open` gives; the laws that
-//! stand on no other call are those of `laws`. `Law`, `Trails`, `Copying`, `Seats`, `FloorSteps`, `Logs` and `Doors` are
-//! what the parts keep.
+//! stand on no other call are those of `laws`. `Law`, `Trails`, `Copying`, `Seats`, `FloorSteps`, `Logs` and `Doors`
+//! are what the parts keep.
 #![tactic(auto)]
 
 mod copied;

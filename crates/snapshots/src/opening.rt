@@ -65,7 +65,7 @@ fn attempt<R: Wait>(
     let first = empty_copy(alloc, limits, pen.trail())?;
     let second = empty_copy(alloc, limits, pen.trail())?;
     let copies = Copies::new(alloc, first, second, usize::from(workers))?;
-    let mut copies = shown(rt, copies)?;
+    let mut copies = publish_blank(rt, copies)?;
     match seat_all(
         alloc,
         &mut copies,
@@ -99,12 +99,15 @@ fn empty_copy(alloc: Global, limits: &Limits, first: &Trail) -> Result<Copied, A
     })
 }
 
-/// Publishes one blank entry, so that the queue of entries has room from here on, and the writer's seat knows the tables.
-fn shown<R: Wait>(rt: &R, copies: Copies) -> Result<Copies, AllocError>
-    requires stands { copies.desk.shown.value ≡ copy_of copies.desk.shown.value.tables.limits copies.desk.shown.value.trail }
+/// Publishes one blank entry, so that the queue of entries has room from here on, and the writer's seat knows the
+/// tables.
+fn publish_blank<R: Wait>(rt: &R, copies: Copies) -> Result<Copies, AllocError>
+    requires stands { copies.desk.shown.value
+        ≡ copy_of copies.desk.shown.value.tables.limits copies.desk.shown.value.trail }
     requires waits { drop copies.behind copies.log.items ≡ [] }
     ensures { IfOk result (λ c. (drop c.behind c.log.items ≡ []) × (c.desk.shown.value ≡ copies.desk.shown.value)
-        × KnowsTables copies.desk.shown.value.trail.identity copies.desk.shown.value.tables.limits (seat_view c.desk.place)) }
+        × KnowsTables copies.desk.shown.value.trail.identity copies.desk.shown.value.tables.limits
+        (seat_view c.desk.place)) }
 {
     let mut copies = copies;
     if let Err(_blank) = copies.append(Entry::Blank) {
@@ -144,7 +147,8 @@ fn seat_all(
 fn seat(copies: &mut Copies, limits: &Limits, first: &Trail) -> Option<Worker<PairDoor>>
     requires { KnowsTables first.now.identity limits.now (seat_view copies.old.desk.place) }
     ensures shown { (copies.new.desk.shown ≡ copies.old.desk.shown) × (copies.new.log ≡ copies.old.log)
-        × (copies.new.behind ≡ copies.old.behind) × (seat_view copies.new.desk.place ≡ seat_view copies.old.desk.place) }
+        × (copies.new.behind ≡ copies.old.behind)
+        × (seat_view copies.new.desk.place ≡ seat_view copies.old.desk.place) }
     ensures worker { IfSome result (IsFresh (end_of first.now limits.now)) }
 {
     let mut reader = copies.factory().reader().ok()?;

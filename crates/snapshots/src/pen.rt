@@ -53,11 +53,11 @@ impl Pen {
         requires { is_open self.now.list ≡ true }
         ensures { IfSome result (λ trail. trail ≡ with_more self.now change.now) }
     {
-        self.trail.and(&self.head, change)
+        self.trail.log(&self.head, change)
     }
 
     /// Takes the longer list for the one that was published.
-    pub(crate) fn go_on(&mut self, trail: Trail)
+    pub(crate) fn set_trail(&mut self, trail: Trail)
         requires { trail.identity ≡ self.old.identity }
         ensures { self.new ≡ trail }
     {

@@ -73,7 +73,7 @@ impl Published {
         if let Err(change) = publish(&mut self.copies, rt, change, trail.again()) {
             return Err((change, AllocError));
         }
-        self.pen.go_on(trail);
+        self.pen.set_trail(trail);
         Ok(self.tell())
     }
 
@@ -110,7 +110,8 @@ fn publish<R: Wait>(
     requires { IsSomeAnd copies.old (λ c. (drop c.behind c.log.items ≡ []) × MayShow c.desk.shown.value change trail) }
     ensures { (limits : Limits) (told : ToldList) → IsSomeAnd copies.old (λ c. c.desk.shown.value ≡ copy_of limits told)
         → MatchResult result
-        (λ _. IsSomeAnd copies.new (λ c. (drop c.behind c.log.items ≡ []) × (c.desk.shown.value ≡ copy_of limits trail)))
+        (λ _. IsSomeAnd copies.new (λ c. (drop c.behind c.log.items ≡ [])
+        × (c.desk.shown.value ≡ copy_of limits trail)))
         (λ back. (back ≡ change) × IsSomeAnd copies.new (λ c. (drop c.behind c.log.items ≡ [])
         × (c.desk.shown.value ≡ copy_of limits told))) }
 {

@@ -54,7 +54,7 @@ impl Trail {
 
     /// Logs a change in the book of this head, behind the list, and gives the longer list. None where the book has gone
     /// on behind the list, or 2^64 - 1 changes were logged.
-    pub(crate) fn and(&self, head: &Word<Change, u64, Law>, change: &Change) -> Option<Trail>
+    pub(crate) fn log(&self, head: &Word<Change, u64, Law>, change: &Change) -> Option<Trail>
         requires head { head.now ≡ head_of self.now.identity }
         requires open { is_open self.now.list ≡ true }
         ensures { IfSome result (λ trail. trail ≡ with_more self.now change.now) }

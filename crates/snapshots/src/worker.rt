@@ -4,7 +4,7 @@ ghost use Rattle.std.specs.Prelude.{◌≡◌, ℕ, ◌-◌, ◌<◌, ◌≤◌,
 ghost use Rattle.vnff_base.specs.Counts.{Rose};
 ghost use Rattle.ff_headers.specs.Frames.{headers_of};
 ghost use Rattle.snapshots.specs.Reads.{IsRead};
-ghost use Rattle.snapshots.specs.Workers.{Logged, noted, first_floor};
+ghost use Rattle.snapshots.specs.Workers.{Logged, log_after, first_floor};
 ghost use Rattle.snapshots.specs.Logs.{items_of, Fits};
 
 use crate::door::Door;
@@ -105,8 +105,8 @@ impl<D: Door> Worker<D> {
     }
 
     /// What the tables that are published now give for a frame with these headers: the first matching rule after all
-    /// changes of a list that begins with all that was seen or told before. Where the log has room it is logged too. None
-    /// where the door refused. It waits for nobody and takes no memory.
+    /// changes of a list that begins with all that was seen or told before. Where the log has room it is logged too.
+    /// None where the door refused. It waits for nobody and takes no memory.
     pub fn classify(&mut self, headers: &Headers) -> Option<Seen>
         ensures same_identity { self.new.identity ≡ self.old.identity }
         ensures same_limits { self.new.limits ≡ self.old.limits }
@@ -116,7 +116,8 @@ impl<D: Door> Worker<D> {
             (λ seen. IsRead self.old.limits self.old.floors self.new.floors headers.now seen) }
         ensures log { MatchOption result
             ((self.new.log ≡ self.old.log) × (self.new.spare ≡ self.old.spare))
-            (λ seen. (self.new.log ≡ noted self.old.log self.old.spare seen) × (self.new.spare ≡ self.old.spare - 1)) }
+            (λ seen. (self.new.log ≡ log_after self.old.log self.old.spare seen)
+            × (self.new.spare ≡ self.old.spare - 1)) }
         ensures logged { (frames : List (List ℕ)) (frame : List ℕ) → Logged self.old frames → 0 < self.old.spare
             → headers.now ≡ headers_of frame → IsSome result → length (first_floor self.new.floors) < 2 ^ 64 - 1
             → Logged self.new (frames ++ frame ∷ []) }
@@ -143,7 +144,7 @@ impl<D: Door> Worker<D> {
 fn note(log: &mut Option<Vec<Seen>>, spare: &mut usize, seen: Seen)
     requires { Fits log.old spare.old }
     ensures fits { Fits log.new spare.new }
-    ensures log { items_of log.new ≡ noted (items_of log.old) spare.old seen }
+    ensures log { items_of log.new ≡ log_after (items_of log.old) spare.old seen }
     ensures spare { spare.new ≡ spare.old - 1 }
 {
     if let Some(log) = log

@@ -132,8 +132,8 @@ nothing_made : (s : DeviceState) → [] ≡ changes_made s [] []
 unfolding changes_made
 nothing_made s = refl
 
-begun : (caps : CapsParts) (start : Start) (lines : List AdminLine) (n workers : ℕ) (s0 : AdminSide) (r0 : List WorkerState) → IsOpened caps start (length lines) n workers s0 r0 → HasRunTo (start_state caps start) lines 0 s0
-begun caps start lines n workers s0 r0 o =
+none_carried_out : (caps : CapsParts) (start : Start) (lines : List AdminLine) (n workers : ℕ) (s0 : AdminSide) (r0 : List WorkerState) → IsOpened caps start (length lines) n workers s0 r0 → HasRunTo (start_state caps start) lines 0 s0
+none_carried_out caps start lines n workers s0 r0 o =
     let s = start_state caps start in
     subst (λ rs. HasRun s [] rs s0.device s0.end.list) (sym (ap replies_in o.replies)) (record { answered = tt; left = o.device ∙ nothing_left s; published = o.list ∙ nothing_made s })
 
@@ -164,7 +164,7 @@ live_ends caps start lines frames workers first s0 s1 r0 r1 run some few o m h =
   same = sym (ap replies_in h.replies)
 
   run_first : HasRunTo s lines first m.middle
-  run_first = m.firsts.run s (begun caps start lines (length frames) workers s0 r0 o)
+  run_first = m.firsts.run s (none_carried_out caps start lines (length frames) workers s0 r0 o)
 
   whole : HasRun s lines rs s1.device s1.end.list
   whole = subst (λ ls. HasRun s ls rs s1.device s1.end.list) (take-length lines) (subst (λ r. HasRun s (take (length lines) lines) r s1.device s1.end.list) same (m.others.run s run_first))

@@ -25,7 +25,7 @@ use Rattle.snapshots.specs.declared.seen.Seen.{Seen}
 use Rattle.steer.specs.LiveCommands.{AreAnswered, changes_made}
 use Rattle.steer.specs.LiveRuns.{PacketLine, IsPacketLine, IsLiveRun, accepted_changes, told_changes}
 use Rattle.steer.specs.LiveSteps.{HasEntered, HasFloor, SeesAtLeast, HasReadOn, HasLearned, HasReadLast}
-use Rattle.steer.specs.Results.{log_at, unseen, read_of, line_of, packet_lines}
+use Rattle.steer.specs.Results.{log_at, no_read, read_of, line_of, packet_lines}
 use Rattle.steer.specs.Shares.{share_len, share}
 use Rattle.steer.specs.declared.admin_line.AdminLine.{AdminLine}
 use Rattle.steer.proofs.OpenLists.{made_open, closed_count, after_front}
@@ -139,7 +139,7 @@ stands limits changes told frames workers ws some ended i lt =
     record {
       worker = w;
       at = found.1;
-      logged_at = slice_get-get_or w.log j unseen in_log ∙ ap (λ l. Some (get_or l j unseen)) (sym log);
+      logged_at = slice_get-get_or w.log j no_read in_log ∙ ap (λ l. Some (get_or l j no_read)) (sym log);
       frame_at = slice_get-get_or (mine ++ [] ∷ []) j [] in_all ∙ ap (λ f. Some f) (get_or-append mine ([] ∷ []) [] j long ∙ share_has frames workers i some lt);
     }
 
@@ -190,7 +190,7 @@ later_turn workers i j some lt same =
 pub is_live : (caps : CapsParts) (start : Start) (lines : List AdminLine) (frames : List (List ℕ)) (workers first : ℕ) (replies : List (List ℕ)) (ws : List WorkerState) → 0 < workers → AreAnswered (start_state caps start) lines replies → AllEnded caps.limits (accepted_changes caps start lines replies) (told_changes caps start lines replies first) frames workers ws → IsLiveRun caps start lines frames workers first replies (packet_lines ws workers (length frames))
 is_live caps start lines frames workers first replies ws some answered ended = record {
   answered = answered;
-  packets = zip_from_places (IsPacketLine caps.limits changes told) frames printed [] (line_of unseen) (lines_long ws workers n) (λ i lt. subst (IsPacketLine caps.limits changes told (get_or frames i [])) (sym (line_at ws workers n i (line_of unseen) lt)) (line_holds caps.limits changes told frames workers ws stays_open some ended i lt));
+  packets = zip_from_places (IsPacketLine caps.limits changes told) frames printed [] (line_of no_read) (lines_long ws workers n) (λ i lt. subst (IsPacketLine caps.limits changes told (get_or frames i [])) (sym (line_at ws workers n i (line_of no_read) lt)) (line_holds caps.limits changes told frames workers ws stays_open some ended i lt));
   rises = rises;
 } where
   n : ℕ

@@ -12,7 +12,7 @@ use Rattle.ff_headers.specs.declared.change.Change.{Change}
 use Rattle.ff_headers.specs.declared.limits.Limits.{Limits}
 use Rattle.snapshots.specs.Lists.{Covers}
 use Rattle.snapshots.specs.Reads.{IsRead, seen_after}
-use Rattle.snapshots.specs.Workers.{WorkerState, Logged, IsLogged, first_floor, noted}
+use Rattle.snapshots.specs.Workers.{WorkerState, Logged, IsLogged, first_floor, log_after}
 use Rattle.snapshots.specs.declared.seen.Seen.{Seen}
 use Rattle.steer.specs.LiveSteps.{HasEntered, HasFloor, SeesAtLeast, HasNotRead, HasReadOn}
 
@@ -83,7 +83,7 @@ reads_more a b c fs gs p q = record {
 pub entered : (limits : Limits) (before now : List (List Change)) (headers : HeaderBytes) (seen : Seen) → IsRead limits before now headers seen → HasEntered before now
 entered limits before now headers seen r = record { list = r.list; floors = r.floors; covers = r.covers }
 
-pub one_read : (a b : WorkerState) (frame : List ℕ) (headers : HeaderBytes) (seen : Seen) → b.identity ≡ a.identity → b.limits ≡ a.limits → 0 < a.spare → IsRead a.limits a.floors b.floors headers seen → b.log ≡ noted a.log a.spare seen → b.spare ≡ a.spare - 1 → ((frames : List (List ℕ)) → Logged a frames → length (first_floor b.floors) < 2 ^ 64 - 1 → Logged b (frames ++ frame ∷ [])) → HasReadOn a b (frame ∷ [])
+pub one_read : (a b : WorkerState) (frame : List ℕ) (headers : HeaderBytes) (seen : Seen) → b.identity ≡ a.identity → b.limits ≡ a.limits → 0 < a.spare → IsRead a.limits a.floors b.floors headers seen → b.log ≡ log_after a.log a.spare seen → b.spare ≡ a.spare - 1 → ((frames : List (List ℕ)) → Logged a frames → length (first_floor b.floors) < 2 ^ 64 - 1 → Logged b (frames ++ frame ∷ [])) → HasReadOn a b (frame ∷ [])
 one_read a b frame headers seen identity limits some r log spare logged = record {
   identity = identity;
   limits = limits;
@@ -125,7 +125,7 @@ asks_again a m b None R S P h none identity limits answer log = record {
 asks_again a m b (Some seen) R S P h none identity limits answer log = absurd cc
 
 -- what a call that gave an answer leaves
-pub has_read : (a m b : WorkerState) (frame : List ℕ) (headers : HeaderBytes) (r : Option Seen) (P Q : Type 0) → headers ≡ headers_of frame → HasNotRead a m → 0 < a.spare → is_some r ≡ true → b.identity ≡ m.identity → b.limits ≡ m.limits → MatchOption r P (λ seen. IsRead m.limits m.floors b.floors headers seen) → MatchOption r Q (λ seen. (b.log ≡ noted m.log m.spare seen) × (b.spare ≡ m.spare - 1)) → ((frames : List (List ℕ)) (f : List ℕ) → Logged m frames → 0 < m.spare → headers ≡ headers_of f → IsSome r → length (first_floor b.floors) < 2 ^ 64 - 1 → Logged b (frames ++ f ∷ [])) → HasReadOn a b (frame ∷ []) × HasEntered a.floors b.floors
+pub has_read : (a m b : WorkerState) (frame : List ℕ) (headers : HeaderBytes) (r : Option Seen) (P Q : Type 0) → headers ≡ headers_of frame → HasNotRead a m → 0 < a.spare → is_some r ≡ true → b.identity ≡ m.identity → b.limits ≡ m.limits → MatchOption r P (λ seen. IsRead m.limits m.floors b.floors headers seen) → MatchOption r Q (λ seen. (b.log ≡ log_after m.log m.spare seen) × (b.spare ≡ m.spare - 1)) → ((frames : List (List ℕ)) (f : List ℕ) → Logged m frames → 0 < m.spare → headers ≡ headers_of f → IsSome r → length (first_floor b.floors) < 2 ^ 64 - 1 → Logged b (frames ++ f ∷ [])) → HasReadOn a b (frame ∷ []) × HasEntered a.floors b.floors
 has_read a m b frame headers None P Q is h some given identity limits answer log logged = absurd cc
 has_read a m b frame headers (Some seen) P Q is h some given identity limits answer log logged =
     let room : 0 < m.spare = omega (arith, h.spare) in

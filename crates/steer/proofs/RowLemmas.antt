@@ -33,8 +33,8 @@ turn_at R i before now o v inside turned h =
     turn_more R i before now v within (λ d. subst (λ x. R i x v) (get_or_default now i o d within) turned) h
 
 -- what holds of each worker still holds of those that didn't have their turn
-pub still : (P : WorkerState → Type 0) (R : ℕ → WorkerState → WorkerState → Type 0) (i : ℕ) (before now : List WorkerState) (o : WorkerState) → i < length before → All P before → HaveTurned R i before now → P (get_or now i o)
-still P R i before now o inside all h = subst P (sym (h.rest i o (omega arith))) (all i o inside)
+pub holds_unturned : (P : WorkerState → Type 0) (R : ℕ → WorkerState → WorkerState → Type 0) (i : ℕ) (before now : List WorkerState) (o : WorkerState) → i < length before → All P before → HaveTurned R i before now → P (get_or now i o)
+holds_unturned P R i before now o inside all h = subst P (sym (h.rest i o (omega arith))) (all i o inside)
 
 -- ---- the first of them, and the others
 

@@ -1,5 +1,5 @@
--- Commands that are carried out while workers read: each is answered by the machine's verdict, or a change is refused for
--- want of memory. That refusal is this project's own.
+-- Commands that are carried out while workers read: each is answered by the machine's verdict, or a change is refused
+-- for want of memory. That refusal is this project's own.
 use Rattle.std.specs.Prelude.{⊤, ℕ, ◌≡◌, Bool, MatchBool, if◌then◌else◌, List, [], ◌∷◌, ◌++◌}
 use Rattle.std.specs.Str.{bytes_eq}
 use Rattle.ff_headers.specs.declared.change.Change.{Change}
@@ -34,7 +34,8 @@ changes_made_by state line reply =
 unfoldable pub state_left : DeviceState → AdminLine → List ℕ → DeviceState
 state_left state line reply = if is_no_memory reply then state else next_state state line.bytes line.room
 
--- the reply that a command may get in a state: the one for want of memory where its effect is a change, or the machine's
+-- the reply that a command may get in a state: the one for want of memory where its effect is a change, or the
+-- machine's
 unfoldable pub IsAnswered : DeviceState → AdminLine → List ℕ → Type 0
 IsAnswered state line reply = MatchBool (is_no_memory reply)
     ((change : Change) × (effect_of state line.bytes line.room ≡ effects.Change change))

@@ -1,5 +1,5 @@
--- A live run in its three phases: what is opened, what the commands and the reads leave, and what is closed. This project's
--- own.
+-- A live run in its three phases: what is opened, what the commands and the reads leave, and what is closed. This
+-- project's own.
 use Rattle.std.specs.Prelude.{ℕ, ◌≡◌, ◌<◌, ◌≤◌, ◌+◌, List, [], ◌∷◌, ◌++◌, length, get_or, vec_capacity}
 use Rattle.cap_table.specs.Caps.{CapsParts}
 use Rattle.cap_table.specs.States.{start_state}
@@ -31,7 +31,8 @@ pub record IsOpened (caps : CapsParts) (start : Start) (commands n workers : ℕ
   pub list : side.end.list ≡ []
   pub limits : side.end.limits ≡ caps.limits
   pub as_many : length readers ≡ workers
-  pub ready : (place : ℕ) (d : WorkerState) → place < workers → IsReady side.end n workers place (get_or readers place d)
+  pub ready : (place : ℕ) (d : WorkerState) → place < workers
+      → IsReady side.end n workers place (get_or readers place d)
 
 -- the first commands were carried out and every worker was told of them; then the others were, while the workers read
 -- their shares of the frames

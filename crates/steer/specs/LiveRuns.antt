@@ -21,7 +21,8 @@ pub record PacketLine : Type 0 where
 
 -- a frame's line: no more changes were seen than there are, and no fewer than the worker was told of before its first
 -- frame; the action is that of the first matching rule after so many
-pub record IsPacketLine (limits : Limits) (changes : List Change) (told : ℕ) (frame : List ℕ) (line : PacketLine) : Type 0 where
+pub record IsPacketLine (limits : Limits) (changes : List Change) (told : ℕ) (frame : List ℕ) (line : PacketLine)
+    : Type 0 where
   pub counted : line.after ≤ length changes
   pub covers : told ≤ line.after
   pub acted : line.action ≡ action_of (after limits changes line.after) (headers_of frame)
@@ -35,9 +36,9 @@ abbrev pub told_changes : CapsParts → Start → List AdminLine → List (List 
 told_changes caps start commands replies first =
     length (accepted_changes caps start (take first commands) (take first replies))
 
--- a legal run of so many workers over frames, beside commands of which the workers were told the first ones: each command
--- is answered by the machine or refused for want of memory; each frame has a line; and along the frames of one worker, to
--- whom those of one remainder belong, the numbers of changes don't fall
+-- a legal run of so many workers over frames, beside commands of which the workers were told the first ones: each
+-- command is answered by the machine or refused for want of memory; each frame has a line; and along the frames of one
+-- worker, to whom those of one remainder belong, the numbers of changes don't fall
 pub record IsLiveRun (caps : CapsParts) (start : Start) (commands : List AdminLine) (frames : List (List ℕ))
     (workers first : ℕ) (replies : List (List ℕ)) (lines : List PacketLine) : Type 0 where
   pub answered : AreAnswered (start_state caps start) commands replies

@@ -13,7 +13,8 @@ use Rattle.steer.specs.declared.admin_line.AdminLine.{AdminLine}
 -- ---- commands
 
 -- commands with these replies led from a state to a device, and their changes were published, in order
-pub record HasRun (from : DeviceState) (lines : List AdminLine) (replies : List (List ℕ)) (device : DeviceState) (list : List Change) : Type 0 where
+pub record HasRun (from : DeviceState) (lines : List AdminLine) (replies : List (List ℕ)) (device : DeviceState)
+    (list : List Change) : Type 0 where
   pub answered : AreAnswered from lines replies
   pub left : device ≡ state_behind from lines replies
   pub published : list ≡ changes_made from lines replies
@@ -43,8 +44,8 @@ pub record HasNotRead (before now : WorkerState) : Type 0 where
   pub log : now.log ≡ before.log
   pub spare : now.spare ≡ before.spare
 
--- a worker read these frames, and logged what it read. Its lists only grew, so that what was logged before stands for as
--- many changes as it did. A list of 2^64 - 1 changes is longer than any that is published
+-- a worker read these frames, and logged what it read. Its lists only grew, so that what was logged before stands for
+-- as many changes as it did. A list of 2^64 - 1 changes is longer than any that is published
 pub record HasReadOn (before now : WorkerState) (frames : List (List ℕ)) : Type 0 where
   pub identity : now.identity ≡ before.identity
   pub limits : now.limits ≡ before.limits
@@ -62,12 +63,14 @@ pub record HaveRead (frames : List (List ℕ)) (workers place : ℕ) (before now
 
 -- each of these workers, at the places from this one on, has room for its share of n frames and one read more
 pub record HaveRoom (n workers place : ℕ) (readers : List WorkerState) : Type 0 where
-  pub each : (k : ℕ) (d : WorkerState) → k < length readers → share_len n workers (place + k) < (get_or readers k d).spare
+  pub each : (k : ℕ) (d : WorkerState) → k < length readers
+      → share_len n workers (place + k) < (get_or readers k d).spare
 
 -- ---- workers in a row
 
 -- the workers before a place changed in this way, each at its place, and the others didn't
-pub record HaveTurned (R : ℕ → WorkerState → WorkerState → Type 0) (upto : ℕ) (before now : List WorkerState) : Type 0 where
+pub record HaveTurned (R : ℕ → WorkerState → WorkerState → Type 0) (upto : ℕ) (before now : List WorkerState)
+    : Type 0 where
   pub as_many : length now ≡ length before
   pub done : (k : ℕ) (d : WorkerState) → k < upto → R k (get_or before k d) (get_or now k d)
   pub rest : (k : ℕ) (d : WorkerState) → upto ≤ k → get_or now k d ≡ get_or before k d

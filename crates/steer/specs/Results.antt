@@ -25,12 +25,12 @@ abbrev pub log_at : List WorkerState → ℕ → List Seen
 log_at workers place = option_map_or (λ worker. worker.log) (slice_get workers place) []
 
 -- nothing was read
-abbrev pub unseen : Seen
-unseen = record { after = 0; action = Default; rule = None }
+abbrev pub no_read : Seen
+no_read = record { after = 0; action = Default; rule = None }
 
 -- the read of a frame: entry `i / workers` of the log of worker `i % workers`
 abbrev pub read_of : List WorkerState → ℕ → ℕ → Seen
-read_of states workers i = get_or (log_at states (i % workers)) (i / workers) unseen
+read_of states workers i = get_or (log_at states (i % workers)) (i / workers) no_read
 
 -- the line of a read
 abbrev pub line_of : Seen → PacketLine

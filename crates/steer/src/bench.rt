@@ -48,6 +48,10 @@ impl Model for Bench {
 impl Bench {
     /// A device at its start, with no rule in its tables and no command in its ring. All the memory that they will need
     /// is taken here.
+    ///
+    /// # Errors
+    ///
+    /// Where memory runs out.
     pub fn new(alloc: Global, caps: DeviceCaps, start: Start) -> Result<Bench, AllocError>
         ensures state { IfOk result (λ bench. bench.device ≡ start_state caps start) }
         ensures memory { IfOk result (λ bench. length bench.memory ≡ bench_bytes) }
@@ -68,8 +72,8 @@ impl Bench {
         })
     }
 
-    /// Sends a command through the ring, with this much room for the reply, and gives the reply. The command is cut
-    /// into pieces of 64 bytes, and the room into pieces of 256.
+    /// Sends a command of 1 to 1,024 bytes through the ring, with room for a reply of so many bytes, at most 4,096, and
+    /// gives the reply. The command is cut into pieces of 64 bytes, and the room into pieces of 256.
     pub fn admin(&mut self, bytes: &[u8], room: u32) -> ReplyBytes
         requires some { 0 < length bytes.now }
         requires short { length bytes.now ≤ most_command }
@@ -103,12 +107,12 @@ impl Bench {
         // A queue is one of the device's queue pairs.
         ensures queue { (queue : ℕ) → result ≡ actions.Queue queue → queue < self.now.device.caps.pairs }
     {
-        found::<Brand>(&self.tables, &Headers::parse(frame), Blank::new(1))
+        first_action::<Brand>(&self.tables, &Headers::parse(frame), Blank::new(1))
     }
 }
 
 /// The action of the first rule that matches, by a search whose steps nobody counts.
-fn found<L: Ledger>(tables: &Tables, headers: &Headers, blank: Blank) -> Action
+fn first_action<L: Ledger>(tables: &Tables, headers: &Headers, blank: Blank) -> Action
     requires name { blank.name ≡ L.name }
     requires parts { blank.parts ≡ L.parts }
     requires some { 0 < blank.parts }

@@ -16,9 +16,9 @@ use std::sync::Wait;
 use std::thread::{Threads, join_mut};
 use vnff_base::List;
 
-/// Carries out the commands from a place on, while the workers from a place on read their shares of the frames. The first
-/// worker reads on a thread of its own, beside the commands and the other workers; where no thread can be made, it reads
-/// after them.
+/// Carries out the commands from a place on, while the workers from a place on read their shares of the frames. The
+/// first worker reads on a thread of its own, beside the commands and the other workers; where no thread can be made,
+/// it reads after them.
 #[cycle(beside)]
 pub(crate) fn beside<R: Threads + Wait + Sync, G: Gate>(
     rt: &R,

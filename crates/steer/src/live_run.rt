@@ -26,9 +26,9 @@ use vnff_base::List;
 
 /// Carries commands out on a device at its start, while so many workers read frames in the device's published tables.
 /// Frame `i` belongs to worker `i % workers`; the first `after` commands are carried out, and every worker is told of
-/// them, before any frame is read. The others run beside the workers; then the list of changes is closed, and each worker
-/// reads the empty frame once more. A worker whose thread can't be started is run by the calling thread after the last
-/// command. It may wait.
+/// them, before any frame is read. The others run beside the workers; then the list of changes is closed, and each
+/// worker reads the empty frame once more. A worker whose thread can't be started is run by the calling thread after
+/// the last command. It may wait.
 ///
 /// # Errors
 ///
@@ -68,7 +68,7 @@ pub fn live<R: Threads + Wait + Sync, G: Gate>(
     ensures logged { IfOk result (λ run. (i : ℕ) → i < length frames.now
         → slice_get (log_at run.workers (i % workers)) (i / workers) ≡ Some (read_of run.workers workers i)) }
 {
-    let (mut side, mut readers) = opened(
+    let (mut side, mut readers) = open_run(
         rt,
         alloc,
         caps,
@@ -87,12 +87,12 @@ pub fn live<R: Threads + Wait + Sync, G: Gate>(
         &mut side,
         readers.as_mut_slice(),
     );
-    closed(rt, side, readers)
+    close_run(rt, side, readers)
 }
 
-/// A device at its start, with room for so many replies; its published tables, which are empty; and so many workers, each
-/// with room in its log for its share of `n` frames and one read more.
-fn opened<R: Wait>(
+/// A device at its start, with room for so many replies; its published tables, which are empty; and so many workers,
+/// each with room in its log for its share of `n` frames and one read more.
+fn open_run<R: Wait>(
     rt: &R,
     alloc: Global,
     caps: DeviceCaps,
@@ -149,7 +149,7 @@ fn run<R: Threads + Wait + Sync, G: Gate>(
 }
 
 /// Closes the list of changes, and lets each worker read once more.
-fn closed<R: Wait>(
+fn close_run<R: Wait>(
     rt: &R,
     side: AdminSide,
     mut readers: Vec<Worker<PairDoor>>,

@@ -65,6 +65,7 @@ pub(crate) fn post_command(
     ensures pops { (device : DeviceEndState) → Agree driver_end.old device mem.old
         → pop_answer mem.new device.place device.next ≡ Ok (Some (chain_with result bytes.now room)) }
 {
+    // Its clause says that the driver's end is valid.
     let _ = driver_end.free_len();
     mem.write(COMMAND_ADDR, bytes).unwrap();
     let mut pieces: Pieces = ArrayVec::new();

@@ -31,8 +31,8 @@ run-requires-clause-logs g c κs within =
     let rooms = ready_rooms c.in_ok-side.side.end c.len-2.result c.args.workers c.in_ok-side.readers.items c.in_ok-side.ensures.as_many c.in_ok-side.ensures.ready in
     subst (HaveRoom (length c.args.frames.now) c.args.workers 0) (sym c.as_mut_slice.ensures.value) (subst (λ n. HaveRoom n c.args.workers 0 c.in_ok-side.readers.items) c.len-2.ensures rooms)
 
-pub closed-requires : goal.closed-requires
-closed-requires g c =
+pub close_run-requires : goal.close_run-requires
+close_run-requires g c =
     let side = c.in_ok-side.side in
     let items = c.in_ok-side.readers.items in
     let later = c.run.new.side in
@@ -60,12 +60,12 @@ returns g c =
     let start = c.args.start in
     let workers = c.args.workers in
     let first = c.args.after in
-    let r = c.closed.result in
+    let r = c.close_run.result in
     let opened : IsOpened caps start (length lines) (length frames) workers side items = subst (λ n. IsOpened caps start n (length frames) workers side items) c.len.ensures (subst (λ n. IsOpened caps start c.len.result n workers side items) c.len-2.ensures c.in_ok-side.ensures) in
     let ran : HasBeenLive lines frames workers first side later items done = subst (λ ws. HasBeenLive lines frames workers first side later ws done) c.as_mut_slice.ensures.value c.run.ensures in
     let e = still_open caps start lines frames workers first side later items done opened ran in
     let back = lent_back c.in_ok-side.readers.len done items (e.as_many ∙ sym opened.as_many) (omega (arith, c.in_ok-side.readers.ok.0)) in
-    let closed : IfOk r (HasClosed later done) = subst (λ ws. IfOk r (HasClosed later ws)) back c.closed.ensures in
+    let closed : IfOk r (HasClosed later done) = subst (λ ws. IfOk r (HasClosed later ws)) back c.close_run.ensures in
     let Ends = LiveEnds caps start lines frames workers first in
     let ends : IfOk r Ends = IfOk-weaker r (HasClosed later done) Ends (λ run h. live_ends caps start lines frames workers first side later items done run c.requires.some c.requires.commands opened ran h) closed in
     record {

@@ -4,7 +4,7 @@ use Rattle.std.specs.Option.{SomeIff}
 use Rattle.snapshots.specs.Workers.{WorkerState}
 use Rattle.steer.specs.LiveSteps.{HaveTurned, HasKept}
 use Rattle.steer.specs.Shares.{share_len}
-use Rattle.steer.proofs.RowLemmas.{none_turned, turn_at, still}
+use Rattle.steer.proofs.RowLemmas.{none_turned, turn_at, holds_unturned}
 use Rattle.steer.proofs.workers.keep_all.Goals as goal
 
 pub keep-requires : goal.keep-requires
@@ -13,7 +13,7 @@ keep-requires c =
     let j = c.from.result in
     let inside : j < length c.args.readers.now = omega (arith, c.requires.as_many, c.from.ensures, c.loop-place-test.true) in
     let turned : HaveTurned R j c.args.readers.now c.loop-place.readers = subst (λ k. HaveTurned R k c.args.readers.now c.loop-place.readers) (sym c.from.ensures) c.loop-place.invariant in
-    still (λ (w : WorkerState). w.log ≡ []) R j c.args.readers.now c.loop-place.readers c.index-readers-from.result inside c.requires.empty turned
+    holds_unturned (λ (w : WorkerState). w.log ≡ []) R j c.args.readers.now c.loop-place.readers c.index-readers-from.result inside c.requires.empty turned
 
 pub loop-place-init : goal.loop-place-init
 loop-place-init c = none_turned (HasKept c.args.n c.args.workers) c.args.readers.now

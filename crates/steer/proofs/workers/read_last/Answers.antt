@@ -3,17 +3,17 @@ use Rattle.snapshots.specs.Ends.{EndState}
 use Rattle.snapshots.specs.Lists.{ToldList}
 use Rattle.snapshots.specs.Workers.{WorkerState}
 use Rattle.steer.specs.LiveSteps.{HaveTurned, HasReadLast}
-use Rattle.steer.proofs.RowLemmas.{none_turned, turn_at, still}
+use Rattle.steer.proofs.RowLemmas.{none_turned, turn_at, holds_unturned}
 use Rattle.steer.proofs.workers.read_last.Goals as goal
 
 pub learn_and_read-requires : goal.learn_and_read-requires
 learn_and_read-requires g c =
     let list = c.args.closed.now.list in
     let same : (get_or c.loop-place.readers c.loop-place.place c.index-readers-place.result).identity ≡ c.args.closed.now.identity =
-    still (λ (w : WorkerState). w.identity ≡ c.args.closed.now.identity) (λ _. HasReadLast list) c.loop-place.place c.args.readers.now c.loop-place.readers c.index-readers-place.result c.loop-place-test.true c.requires.identity c.loop-place.invariant.1 in
+    holds_unturned (λ (w : WorkerState). w.identity ≡ c.args.closed.now.identity) (λ _. HasReadLast list) c.loop-place.place c.args.readers.now c.loop-place.readers c.index-readers-place.result c.loop-place-test.true c.requires.identity c.loop-place.invariant.1 in
     record {
       identity = ap (λ (t : ToldList). t.identity) c.tell-told.ensures.told ∙ (ap (λ (e : EndState). e.identity) c.loop-place.invariant.0 ∙ sym same);
-      room = still (λ (w : WorkerState). 0 < w.spare) (λ _. HasReadLast list) c.loop-place.place c.args.readers.now c.loop-place.readers c.index-readers-place.result c.loop-place-test.true c.requires.room c.loop-place.invariant.1;
+      room = holds_unturned (λ (w : WorkerState). 0 < w.spare) (λ _. HasReadLast list) c.loop-place.place c.args.readers.now c.loop-place.readers c.index-readers-place.result c.loop-place-test.true c.requires.room c.loop-place.invariant.1;
     }
 
 pub loop-place-init : goal.loop-place-init

@@ -3,14 +3,14 @@ use Rattle.snapshots.specs.Ends.{EndState}
 use Rattle.snapshots.specs.Lists.{ToldList}
 use Rattle.snapshots.specs.Workers.{WorkerState}
 use Rattle.steer.specs.LiveSteps.{HaveTurned, HasLearned}
-use Rattle.steer.proofs.RowLemmas.{none_turned, turn_at, still}
+use Rattle.steer.proofs.RowLemmas.{none_turned, turn_at, holds_unturned}
 use Rattle.steer.proofs.workers.tell_all.Goals as goal
 
 pub learn-requires : goal.learn-requires
 learn-requires c =
     let list = c.args.end.now.list in
     let same : (get_or c.loop-place.readers c.loop-place.place c.index-readers-place.result).identity ≡ c.args.end.now.identity =
-    still (λ (w : WorkerState). w.identity ≡ c.args.end.now.identity) (λ _. HasLearned list) c.loop-place.place c.args.readers.now c.loop-place.readers c.index-readers-place.result c.loop-place-test.true c.requires c.loop-place.invariant.1 in
+    holds_unturned (λ (w : WorkerState). w.identity ≡ c.args.end.now.identity) (λ _. HasLearned list) c.loop-place.place c.args.readers.now c.loop-place.readers c.index-readers-place.result c.loop-place-test.true c.requires c.loop-place.invariant.1 in
     ap (λ (t : ToldList). t.identity) c.tell-told.ensures.told ∙ (ap (λ (e : EndState). e.identity) c.loop-place.invariant.0 ∙ sym same)
 
 pub loop-place-init : goal.loop-place-init

@@ -22,4 +22,4 @@ returns-in-Err g c = (
 pub invariant_of-self-2 : goal.invariant_of-self-2
 invariant_of-self-2 g c =
     let done = c.in_default-publish.ensures c.self.inside.limits c.self.inside.pen (some_and c.self.inside.copies _ _ c.self.invariant (λ x h. h.1)) in
-    rw (c.go_on.ensures, ← c.again.ensures) done
+    rw (c.set_trail.ensures, ← c.again.ensures) done

@@ -4,7 +4,7 @@ use Rattle.snapshots.specs.Ends.{EndState}
 use Rattle.snapshots.specs.Workers.{WorkerState}
 use Rattle.steer.specs.LiveSteps.{HaveTurned, HasReadLast}
 use Rattle.steer.proofs.LiveLemmas.{lent_back}
-use Rattle.steer.proofs.live_run.closed.Goals as goal
+use Rattle.steer.proofs.live_run.close_run.Goals as goal
 
 pub read_last-requires : goal.read_last-requires
 read_last-requires g c =

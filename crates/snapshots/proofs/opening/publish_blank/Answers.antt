@@ -2,7 +2,7 @@ use Rattle.std.proofs.Common.{◌≡◌, ◌++◌, ◌∷◌, [], ap, ◌∙◌}
 use Rattle.snapshots.specs.Seats.{copy_of}
 use Rattle.snapshots.specs.declared.copied.Entry.TheVariants.{Blank}
 use Rattle.snapshots.proofs.Publishing.{publishes_blank}
-use Rattle.snapshots.proofs.opening.shown.Goals as goal
+use Rattle.snapshots.proofs.opening.publish_blank.Goals as goal
 
 pub publish_as-copies-requires : goal.publish_as-copies-requires
 publish_as-copies-requires g c next is =

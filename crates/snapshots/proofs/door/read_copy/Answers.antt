@@ -5,7 +5,7 @@ use Rattle.snapshots.specs.Lists.{ToldList, ClosesLast}
 use Rattle.snapshots.specs.Reads.{seen_after}
 use Rattle.snapshots.specs.declared.copied.Copied.{Copied}
 use Rattle.snapshots.proofs.Reading.{seen_is}
-use Rattle.snapshots.proofs.door.found.Goals as goal
+use Rattle.snapshots.proofs.door.read_copy.Goals as goal
 
 pub returns : goal.returns
 returns g c =

@@ -6,7 +6,7 @@ use Rattle.steer.specs.LivePhases.{IsOpened}
 use Rattle.steer.specs.LiveSteps.{HaveTurned, HasKept}
 use Rattle.steer.specs.declared.admin_side.AdminSide.{AdminSide}
 use Rattle.steer.proofs.LiveLemmas.{all_ready, lent_back, on_ok}
-use Rattle.steer.proofs.live_run.opened.Goals as goal
+use Rattle.steer.proofs.live_run.open_run.Goals as goal
 
 pub keep_all-requires : goal.keep_all-requires
 keep_all-requires g c = record {

@@ -1,7 +1,7 @@
 use Rattle.std.proofs.Common.{◌≡◌, length, sym, ◌∙◌, ap, true}
 use Rattle.snapshots.specs.Lists.{ToldList, is_open}
 use Rattle.snapshots.proofs.Adding.{adds_moves}
-use Rattle.snapshots.proofs.trail.Trail.and.Goals as goal
+use Rattle.snapshots.proofs.trail.Trail.log.Goals as goal
 
 pub compare_exchange-found-requires : goal.compare_exchange-found-requires
 compare_exchange-found-requires c =
