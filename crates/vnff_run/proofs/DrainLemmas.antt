@@ -16,7 +16,7 @@ use Rattle.split_queue.specs.declared.chain.Chain.{Chain}
 use Rattle.split_queue.specs.declared.queue_place.Place.{Place}
 use Rattle.split_queue.specs.declared.ring_err.RingErr.{RingErr}
 use Rattle.split_queue.specs.declared.ring_err.RingErr.TheVariants as faults
-use Rattle.vnff_run.specs.Drain.{IsDrainable, chain_at, chain_line, chain_lines, drain_last, drained, last_of, memory_behind, with_chain_back}
+use Rattle.vnff_run.specs.Drain.{IsDrainable, chain_at, chain_line, chain_lines, drain_last, drained_chains, last_of, memory_behind, with_chain_back}
 use Rattle.vnff_run.specs.declared.drain.Last.TheVariants.{Empty, Faulty}
 use Rattle.vnff_run.proofs.QueuePlaced.{HasRings, has_rings, back-idx, back-size}
 
@@ -75,9 +75,9 @@ from-is image place index (suc count) =
     ap (λ more. chain_at image place index ∷ more) (subst (λ i. map (chain_at image place) (range_with_len i count) ≡ chains_from mem place i count) next (from-is image place (suc index) count))
 
 -- those of an image are all from 0 on
-drained-is : (image : List ℕ) (place : Place) → drained image place ≡ chains_behind image place 0
-unfolding drained chains_behind
-drained-is image place =
+drained_chains-is : (image : List ℕ) (place : Place) → drained_chains image place ≡ chains_behind image place 0
+unfolding drained_chains chains_behind
+drained_chains-is image place =
     let idx = available_idx image place in
     let whole : idx ≡ idx - 0 = omega arith in
     ap (λ more. if nat_lt place.size idx then Err (faults.IdxJump idx) ∷ [] else more) (from-is image place 0 idx ∙ ap (chains_from image place 0) whole)
@@ -160,7 +160,7 @@ pub record IsAt (image mem : List ℕ) (place : Place) (end : DeviceEndState) (i
   pub small : available_idx image place < 2 ^ 16
   pub within : index ≤ available_idx image place
   pub few : (index ≡ 0) ⊎ (available_idx image place ≤ place.size)
-  pub lines : front ++ chain_lines (chains_behind mem place index) ≡ chain_lines (drained image place)
+  pub lines : front ++ chain_lines (chains_behind mem place index) ≡ chain_lines (drained_chains image place)
   pub last : last_of (available_idx image place) (chains_behind mem place index) ≡ drain_last image place
 
 -- it begins at 0
@@ -172,8 +172,8 @@ starts image place end start none small = record {
   small = small;
   within = omega arith;
   few = inl refl;
-  lines = ap chain_lines (sym (drained-is image place));
-  last = ap (last_of (available_idx image place)) (sym (drained-is image place));
+  lines = ap chain_lines (sym (drained_chains-is image place));
+  last = ap (last_of (available_idx image place)) (sym (drained_chains-is image place));
 }
 
 -- at the index of a pop
@@ -252,7 +252,7 @@ module _ (image mem : List ℕ) (place : Place) (end : DeviceEndState) (index : 
     is_nearer after_end after lines next = omega (arith, is_ahead, here.idx, next.idx)
 
     -- the lines of the chain, and of those behind it
-    pub more-lines : (rest : List ℕ) × (front ++ (chain_line chain ++ rest) ≡ chain_lines (drained image place))
+    pub more-lines : (rest : List ℕ) × (front ++ (chain_line chain ++ rest) ≡ chain_lines (drained_chains image place))
     more-lines =
         (chain_lines (chains_behind mem_back place (index + 1)), ap (λ cs. front ++ chain_lines cs) (sym behind-is) ∙ here.lines)
 
@@ -265,7 +265,7 @@ module _ (image mem : List ℕ) (place : Place) (end : DeviceEndState) (index : 
     nothing : chains_behind mem place index ≡ []
     nothing = none-behind mem place index (elim here.few [ inl start ↦ omega (arith, same, start) | inr few ↦ omega (arith, few, here.idx) ]) same
 
-    pub empty-lines : front ≡ chain_lines (drained image place)
+    pub empty-lines : front ≡ chain_lines (drained_chains image place)
     empty-lines = sym (append-nil front) ∙ ap (λ cs. front ++ chain_lines cs) (sym nothing) ∙ here.lines
 
     pub empty-last : Empty index ≡ drain_last image place
@@ -291,7 +291,7 @@ module _ (image mem : List ℕ) (place : Place) (end : DeviceEndState) (index : 
           (rest, one-behind mem place index few ahead ∙ ap (λ c. c ∷ rest) bad.1)
     ]
 
-    pub fault-lines : front ≡ chain_lines (drained image place)
+    pub fault-lines : front ≡ chain_lines (drained_chains image place)
     fault-lines = sym (append-nil front) ∙ ap (λ cs. front ++ chain_lines cs) (sym first-fault.1) ∙ here.lines
 
     pub fault-last : Faulty f ≡ drain_last image place

@@ -7,7 +7,7 @@ use Rattle.vnff_base.specs.Lines.{NumberedLine, UnreadLines, unread_from, number
 use Rattle.vnff_base.specs.declared.text.Line.{Line}
 use Rattle.vnff_base.proofs.TextLaws.{numbered_from-numbers, length-lines-le}
 use Rattle.vnff_run.specs.Inputs.{file_limit}
-use Rattle.vnff_run.specs.Readings.{HasSmallNumbers, IsFaultOf, lines_from, numbered}
+use Rattle.vnff_run.specs.Readings.{HasSmallNumbers, IsFaultOf, lines_from, numbered_words}
 use Rattle.vnff_run.specs.Results.{◌>>=◌}
 use Rattle.vnff_run.specs.Grammar.{at_line, items_of}
 use Rattle.vnff_run.specs.ItemLines.{item_of}
@@ -77,12 +77,12 @@ unfolding items_of
 items_of-end items next left none = rw none (ap Ok (append-nil items))
 
 -- what a reader gives next, and what it leaves
-pub next_lines : (old new : UnreadLines) (next : Option Line) → MatchOption next ((old.left ≡ []) × (new.left ≡ [])) (λ line. old.left ≡ numbered line ∷ new.left) → lines_from next new.left ≡ old.left
+pub next_lines : (old new : UnreadLines) (next : Option Line) → MatchOption next ((old.left ≡ []) × (new.left ≡ [])) (λ line. old.left ≡ numbered_words line ∷ new.left) → lines_from next new.left ≡ old.left
 next_lines old new None is = sym is.0
 next_lines old new (Some line) is = sym is
 
-pub next_small : (old new : UnreadLines) (next : Option Line) → MatchOption next ((old.left ≡ []) × (new.left ≡ [])) (λ line. old.left ≡ numbered line ∷ new.left) → new.missing ≡ old.missing → HasSmallNumbers old → IfSome next (λ line. line.number < 2 ^ 32) × HasSmallNumbers new
+pub next_small : (old new : UnreadLines) (next : Option Line) → MatchOption next ((old.left ≡ []) × (new.left ≡ [])) (λ line. old.left ≡ numbered_words line ∷ new.left) → new.missing ≡ old.missing → HasSmallNumbers old → IfSome next (λ line. line.number < 2 ^ 32) × HasSmallNumbers new
 next_small old new None is same small =
     (tt, record { left = All-same IsSmall _ _ is.1 (All-nil IsSmall); missing = omega (arith, same, small.missing) })
 next_small old new (Some line) is same small =
-    (small_first old new.left (numbered line) is small, small_rest old new (numbered line) is same small)
+    (small_first old new.left (numbered_words line) is small, small_rest old new (numbered_words line) is same small)

@@ -37,20 +37,20 @@ replayed : String → Outcome
 replayed text = record { status = 0; text = codes text }
 
 -- a text that isn't a script, and one of no bytes
-refused : String → Outcome
-refused text = record { status = 1; text = codes text }
+refusal : String → Outcome
+refusal text = record { status = 1; text = codes text }
 
-late_selector : replay_of "vnff 1\ndevice 4 2 4 8 8 15 3 ready\nframe ffffffffffff0200000000010800\nselect eth whole 000000000000000000000000ffff\n" ≡ refused "refused script:4 word\n"
-unfolding replay_of refused form_of script_in outcome_in fault_words refusal_words refusal_line digits hex_bytes number_of words_of number_within bytes_within is_version start_of caps_of device_of admin_of frame_of item_of after_version device_in is_select selectors_in items_of script_of_lines
+late_selector : replay_of "vnff 1\ndevice 4 2 4 8 8 15 3 ready\nframe ffffffffffff0200000000010800\nselect eth whole 000000000000000000000000ffff\n" ≡ refusal "refused script:4 word\n"
+unfolding replay_of refusal form_of script_in outcome_in fault_words refusal_words refusal_line digits hex_bytes number_of words_of number_within bytes_within is_version start_of caps_of device_of admin_of frame_of item_of after_version device_in is_select selectors_in items_of script_of_lines
 late_selector = refl
 
-no_bytes : replay_of "" ≡ refused "refused script:1 version\n"
-unfolding replay_of refused form_of script_in outcome_in fault_words refusal_words refusal_line digits words_of after_version script_of_lines
+no_bytes : replay_of "" ≡ refusal "refused script:1 version\n"
+unfolding replay_of refusal form_of script_in outcome_in fault_words refusal_words refusal_line digits words_of after_version script_of_lines
 no_bytes = refl
 
 -- a number out of its range, before commands
-four_selectors : replay_of "vnff 1\ndevice 4 2 4 8 8 15 4 ready\nframe ffffffffffff0200000000010800\n" ≡ refused "refused script:2 number\n"
-unfolding replay_of refused form_of script_in outcome_in fault_words refusal_words refusal_line digits number_of words_of number_within is_version start_of caps_of device_of after_version device_in script_of_lines
+four_selectors : replay_of "vnff 1\ndevice 4 2 4 8 8 15 4 ready\nframe ffffffffffff0200000000010800\n" ≡ refusal "refused script:2 number\n"
+unfolding replay_of refusal form_of script_in outcome_in fault_words refusal_words refusal_line digits number_of words_of number_within is_version start_of caps_of device_of after_version device_in script_of_lines
 four_selectors = refl
 
 -- a group, a classifier and a rule are created, and a frame goes to the rule's queue

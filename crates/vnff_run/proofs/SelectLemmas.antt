@@ -69,40 +69,40 @@ one_more_rises last selectors selector rise above whole =
     }
 
 -- selectors in front of those that lines name
-abbrev pub behind : List SelectorParts → Result (List SelectorParts × List NumberedLine) (ℕ × Reason) → Result (List SelectorParts × List NumberedLine) (ℕ × Reason)
-behind selectors spelled = spelled >>= λ more. Ok (selectors ++ more.0, more.1)
+abbrev pub selectors_then : List SelectorParts → Result (List SelectorParts × List NumberedLine) (ℕ × Reason) → Result (List SelectorParts × List NumberedLine) (ℕ × Reason)
+selectors_then selectors spelled = spelled >>= λ more. Ok (selectors ++ more.0, more.1)
 
-behind-push : (selectors : List SelectorParts) (selector : SelectorParts) (spelled : Result (List SelectorParts × List NumberedLine) (ℕ × Reason)) → behind selectors (spelled >>= λ more. Ok (selector ∷ more.0, more.1)) ≡ behind (selectors ++ selector ∷ []) spelled
-behind-push selectors selector (Ok more) = ap (λ all. Ok (all, more.1)) (sym (append_assoc selectors (selector ∷ []) more.0))
-behind-push selectors selector (Err fault) = refl
+selectors_then-push : (selectors : List SelectorParts) (selector : SelectorParts) (spelled : Result (List SelectorParts × List NumberedLine) (ℕ × Reason)) → selectors_then selectors (spelled >>= λ more. Ok (selector ∷ more.0, more.1)) ≡ selectors_then (selectors ++ selector ∷ []) spelled
+selectors_then-push selectors selector (Ok more) = ap (λ all. Ok (all, more.1)) (sym (append_assoc selectors (selector ∷ []) more.0))
+selectors_then-push selectors selector (Err fault) = refl
 
 -- no selector in front
-pub behind-none : (spelled : Result (List SelectorParts × List NumberedLine) (ℕ × Reason)) → behind [] spelled ≡ spelled
-behind-none (Ok more) = refl
-behind-none (Err fault) = refl
+pub selectors_then-none : (spelled : Result (List SelectorParts × List NumberedLine) (ℕ × Reason)) → selectors_then [] spelled ≡ spelled
+selectors_then-none (Ok more) = refl
+selectors_then-none (Err fault) = refl
 
 -- one more line names a selector
-pub selectors_in-more : (last number : ℕ) (selectors : List SelectorParts) (left lines : List NumberedLine) (words rest : List (List ℕ)) (selector : SelectorParts) → left ≡ record { number = number; words = words } ∷ lines → is_select words ≡ true → drop 1 words ≡ rest → at_line number (selector_of last rest) ≡ Ok selector → behind selectors (selectors_in last left) ≡ behind (selectors ++ selector ∷ []) (selectors_in (kind_code selector.kind) lines)
+pub selectors_in-more : (last number : ℕ) (selectors : List SelectorParts) (left lines : List NumberedLine) (words rest : List (List ℕ)) (selector : SelectorParts) → left ≡ record { number = number; words = words } ∷ lines → is_select words ≡ true → drop 1 words ≡ rest → at_line number (selector_of last rest) ≡ Ok selector → selectors_then selectors (selectors_in last left) ≡ selectors_then (selectors ++ selector ∷ []) (selectors_in (kind_code selector.kind) lines)
 unfolding selectors_in
 selectors_in-more last number selectors left lines words rest selector cut begins cut_words is =
-    rw (cut, begins, cut_words, is) (behind-push selectors selector (selectors_in (kind_code selector.kind) lines))
+    rw (cut, begins, cut_words, is) (selectors_then-push selectors selector (selectors_in (kind_code selector.kind) lines))
 
 -- a line names none
-pub selectors_in-stop : (fault : ScriptFault) (last number : ℕ) (selectors : List SelectorParts) (left lines : List NumberedLine) (words rest : List (List ℕ)) (spelled : Result (List SelectorParts × List NumberedLine) (ℕ × Reason)) → left ≡ record { number = number; words = words } ∷ lines → is_select words ≡ true → drop 1 words ≡ rest → behind selectors (selectors_in last left) ≡ spelled → IsFaultOf (at_line number (selector_of last rest)) fault → IsFaultOf spelled fault
+pub selectors_in-stop : (fault : ScriptFault) (last number : ℕ) (selectors : List SelectorParts) (left lines : List NumberedLine) (words rest : List (List ℕ)) (spelled : Result (List SelectorParts × List NumberedLine) (ℕ × Reason)) → left ≡ record { number = number; words = words } ∷ lines → is_select words ≡ true → drop 1 words ≡ rest → selectors_then selectors (selectors_in last left) ≡ spelled → IsFaultOf (at_line number (selector_of last rest)) fault → IsFaultOf spelled fault
 unfolding selectors_in
 selectors_in-stop (faults.Bad at reason) last number selectors left lines words rest spelled cut begins cut_words same is =
     sym same ∙ rw (cut, begins, cut_words, is) refl
 selectors_in-stop faults.Memory last number selectors left lines words rest spelled cut begins cut_words same is = tt
 
 -- the line behind the last one that names a selector
-pub selectors_in-other : (last number : ℕ) (selectors : List SelectorParts) (left lines : List NumberedLine) (words : List (List ℕ)) → left ≡ record { number = number; words = words } ∷ lines → is_select words ≡ false → behind selectors (selectors_in last left) ≡ Ok (selectors, record { number = number; words = words } ∷ lines)
+pub selectors_in-other : (last number : ℕ) (selectors : List SelectorParts) (left lines : List NumberedLine) (words : List (List ℕ)) → left ≡ record { number = number; words = words } ∷ lines → is_select words ≡ false → selectors_then selectors (selectors_in last left) ≡ Ok (selectors, record { number = number; words = words } ∷ lines)
 unfolding selectors_in
 selectors_in-other last number selectors left lines words cut other =
     rw (cut, other) (ap (λ all. Ok (all, record { number = number; words = words } ∷ lines)) (append-nil selectors))
 
 -- no line is left
-pub selectors_in-end : (last : ℕ) (selectors : List SelectorParts) (left : List NumberedLine) → left ≡ [] → behind selectors (selectors_in last left) ≡ Ok (selectors, [])
+pub selectors_in-end : (last : ℕ) (selectors : List SelectorParts) (left : List NumberedLine) → left ≡ [] → selectors_then selectors (selectors_in last left) ≡ Ok (selectors, [])
 unfolding selectors_in
 selectors_in-end last selectors left none = rw none (ap (λ all. Ok (all, [])) (append-nil selectors))
 
-pub ruleset select_steps = (small_first, small_rest, none_rise, one_more_rises, few_codes, behind-none, selectors_in-more, selectors_in-stop, selectors_in-other, selectors_in-end)
+pub ruleset select_steps = (small_first, small_rest, none_rise, one_more_rises, few_codes, selectors_then-none, selectors_in-more, selectors_in-stop, selectors_in-other, selectors_in-end)

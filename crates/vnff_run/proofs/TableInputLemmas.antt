@@ -1,5 +1,5 @@
 -- Reading an input in parts, of which one is read after another or judged.
-use Rattle.std.proofs.Common.{◌≡◌, Option, Some, None, Result, Ok, Err, ap, subst, ◌∙◌, inl, inr, ⊎_elim}
+use Rattle.std.proofs.Common.{◌≡◌, ℕ, List, Option, Some, None, Result, Ok, Err, ap, subst, ◌∙◌, inl, inr, ⊎_elim}
 use Rattle.std.specs.Prelude.{IfSome, IsSomeAnd}
 use Rattle.std.proofs.lemmas.Option.{IfSome_then}
 use Rattle.vnff_base.specs.Counts.{Rose}
@@ -9,14 +9,15 @@ use Rattle.ntuple_text.specs.TableMaps.{TableMap}
 use Rattle.ntuple_compile.specs.Compiled.{IsFaultOf, compiled}
 use Rattle.ntuple_compile.specs.declared.error.CompileErr.{CompileErr}
 use Rattle.ntuple_compile.specs.declared.error.CompileErr.TheVariants as errors
-use Rattle.vnff_run.specs.Endings.{JudgeStops, Judges, ReadsInput}
+use Rattle.vnff_run.specs.Endings.{JudgeStops, Judges, ReadStops, ReadsInput}
 use Rattle.vnff_run.specs.Programs.{compile_stop}
-use Rattle.vnff_run.specs.TableInputs.{commands_or_refusal, compiled_for}
+use Rattle.vnff_run.specs.TableInputs.{commands_or_refusal, compiled_for, frames_in}
 use Rattle.vnff_run.specs.declared.compiled.CompiledTable.{CompiledTable}
 use Rattle.vnff_run.specs.Inputs.{InputFault, Missing, Refused}
 use Rattle.vnff_run.specs.Results.{◌>>=◌}
 use Rattle.vnff_run.specs.declared.stop.Stop.{Stop}
 use Rattle.vnff_run.specs.declared.stop.Stop.TheVariants as stops
+use Rattle.vnff_run.proofs.InputLemmas.{read_stops}
 
 -- a part was read, and what it gives is judged
 pub read_judged : {A B : Type 0} (shelf read : ShelfState) (part : Files → Result A InputFault) (next : A → Result B InputFault) (value : A) (result : Result B Stop) → ReadsInput shelf read part (Ok value) → Judges (next value) result → ReadsInput shelf read (λ files. part files >>= next) result
@@ -53,6 +54,18 @@ read_then shelf middle read part next value (Err stops.AlreadyRefused) was same 
 read_then shelf middle read part next value (Err stops.WriteFault) was same then = absurd then
 read_then shelf middle read part next value (Err stops.SinkFault) was same then = absurd then
 read_then shelf middle read part next value (Err stops.Memory) was same then = then ∙ was.0
+
+-- a part was read, and then the frames of a capture; what the whole gives is made of both
+pub frames_then : {A B : Type 0} (shelf middle read : ShelfState) (part : Files → Result A InputFault) (name : List ℕ) (make : A → List (List ℕ) → B) (value : A) (frames : List (List ℕ)) (result : Result B Stop) → ReadsInput shelf middle part (Ok value) → middle.files ≡ shelf.files → ReadsInput middle read (frames_in name) (Ok frames) → Judges (Ok (make value frames)) result → ReadsInput shelf read (λ files. part files >>= λ x. frames_in name files >>= λ frames. Ok (make x frames)) result
+frames_then shelf middle read part name make value frames result was same got judged =
+    read_then shelf middle read part (λ x files. frames_in name files >>= λ frames. Ok (make x frames)) value result was same
+    (read_judged middle read (frames_in name) (λ frames. Ok (make value frames)) frames result got judged)
+
+-- or the frames can't be read
+pub frames_stop : {A B : Type 0} (shelf middle read : ShelfState) (part : Files → Result A InputFault) (name : List ℕ) (make : A → List (List ℕ) → B) (value : A) (stop : Stop) → ReadsInput shelf middle part (Ok value) → middle.files ≡ shelf.files → ReadStops middle read (frames_in name) stop → ReadStops shelf read (λ files. part files >>= λ x. frames_in name files >>= λ frames. Ok (make x frames)) stop
+frames_stop shelf middle read part name make value stop was same why =
+    read_then shelf middle read part (λ x files. frames_in name files >>= λ frames. Ok (make x frames)) value (Err stop) was same
+    (read_stops middle read (frames_in name) (λ files frames. Ok (make value frames)) stop why)
 
 -- why a table can't be compiled ends a form with its refusal, unless memory ran out
 pub compiled_stops : (caps : CapsParts) (table : TableMap) (err : CompileErr) → IsFaultOf (compiled table caps) err → JudgeStops (compiled_for caps table) (compile_stop err)

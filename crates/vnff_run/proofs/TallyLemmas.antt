@@ -8,7 +8,7 @@ use Rattle.std.proofs.lemmas.List.Elements.{filter-append}
 use Rattle.std.proofs.lemmas.List.Filters.{length-filter_both}
 use Rattle.ff_headers.specs.Objects.{FlowObjects}
 use Rattle.vnff_run.specs.Steering.{Steering, drop_line, dropped_list, frame_queue, is_for, queue_line, sink_line, sink_list, steer_text}
-use Rattle.vnff_run.specs.Tallies.{IsTallyOf, count_line, counted, no_frames, tally_text}
+use Rattle.vnff_run.specs.Tallies.{IsTallyOf, count_line, no_frames, tally_text, tally_with}
 use Rattle.vnff_run.specs.declared.tally.Tally.{Tally}
 
 -- ---- one more frame
@@ -71,7 +71,7 @@ unfolding sink_list dropped_list
 tally_none objects = record { count = refl; queues = λ q below. get_or-replicate 16 q 0 0 below; dropped = refl }
 
 -- one more frame, which goes to a queue or to none
-pub tally_more : (objects : FlowObjects) (frames : List (List ℕ)) (frame : List ℕ) (tally : Tally) (to : Option ℕ) → IsTallyOf objects frames tally → frame_queue objects frame ≡ to → ((q : ℕ) → to ≡ Some q → q < 16) → IsTallyOf objects (frames ++ frame ∷ []) (counted tally to)
+pub tally_more : (objects : FlowObjects) (frames : List (List ℕ)) (frame : List ℕ) (tally : Tally) (to : Option ℕ) → IsTallyOf objects frames tally → frame_queue objects frame ≡ to → ((q : ℕ) → to ≡ Some q → q < 16) → IsTallyOf objects (frames ++ frame ∷ []) (tally_with tally to)
 tally_more objects frames frame tally None so is within = record {
   count = so.count;
   queues = λ q below. so.queues q below ∙ sym (ap length (list_none objects frames frame q is));

@@ -32,7 +32,8 @@ AllDelivered run old new =
 -- They got those of the first n, where they tell their frames.
 abbrev pub FrontDelivered : Steering → List SinkState → List SinkState → Type 0
 FrontDelivered run old new =
-    (n : ℕ) × FirstSinks run.pairs (λ q a b. Follows (appended a (sink_list run.objects (take n run.frames) q)) b) old new
+    (n : ℕ)
+    × FirstSinks run.pairs (λ q a b. Follows (appended a (sink_list run.objects (take n run.frames) q)) b) old new
 
 -- All frames were handed on, or a sink failed.
 abbrev pub DeliversAll : {A E : Type 0} → Steering → List SinkState → List SinkState → Result A E → Type 0
@@ -48,7 +49,8 @@ FinishesAll run old new result = MatchResult result
 
 -- Why a steering of what was read stopped, and what it had done with the sinks.
 abbrev pub SteeringStops : Steering → List SinkState → List SinkState → Stop → Type 0
-SteeringStops run old new stops.SinkFault = FrontSteered run old new × OneRose run.pairs old new × OneRose (length old) old new
+SteeringStops run old new stops.SinkFault =
+    FrontSteered run old new × OneRose run.pairs old new × OneRose (length old) old new
 SteeringStops run old new stops.WriteFault = FrontSteered run old new
 SteeringStops run old new _ = new ≡ old
 

@@ -34,8 +34,8 @@ abbrev pub chain_at : List ℕ → Place → ℕ → Result Chain RingErr
 chain_at image place index = chain_in_slot (memory_behind image place index) place index
 
 -- what an image has: a chain or its fault at each index from 0 to the available one, unless that is more than the size
-unfoldable pub drained : List ℕ → Place → List (Result Chain RingErr)
-drained image place =
+unfoldable pub drained_chains : List ℕ → Place → List (Result Chain RingErr)
+drained_chains image place =
     let idx = available_idx image place in
     if nat_lt place.size idx then Err (faults.IdxJump idx) ∷ [] else map (chain_at image place) (range_with_len 0 idx)
 
@@ -53,7 +53,7 @@ last_of index (Err fault ∷ _) = Faulty fault
 
 -- how the drain of an image ends
 abbrev pub drain_last : List ℕ → Place → Last
-drain_last image place = last_of (available_idx image place) (drained image place)
+drain_last image place = last_of (available_idx image place) (drained_chains image place)
 
 -- ---- what is written
 
@@ -108,7 +108,7 @@ last_line (Faulty fault) = ring_fault_line fault
 
 -- what the drain of an image writes
 unfoldable pub drain_text : List ℕ → Place → List ℕ
-drain_text image place = chain_lines (drained image place) ++ last_line (drain_last image place)
+drain_text image place = chain_lines (drained_chains image place) ++ last_line (drain_last image place)
 
 -- why no queue lies at a place, in a refusal's line. The words of the program give no other size than a queue's.
 abbrev pub setup_word : SetupErr → List ℕ

@@ -26,8 +26,8 @@ load_with _ _ = None
 unfoldable pub load_of : List ℕ → List ℕ → Option WordForm
 load_of seed frames = load_with (number_of seed) (frame_count_of frames)
 
--- the form of the words: `replay SCRIPT`, `gen SEED N`, `compile DEVICE TABLE`, `steer SCRIPT CAPTURE`, `table DEVICE TABLE
--- CAPTURE` or `drain IMAGE SIZE DESC AVAIL USED`
+-- the form of the words: `replay SCRIPT`, `gen SEED N`, `compile DEVICE TABLE`, `steer SCRIPT CAPTURE`,
+-- `table DEVICE TABLE CAPTURE` or `drain IMAGE SIZE DESC AVAIL USED`
 unfoldable pub form_of : List (List ℕ) → Option WordForm
 form_of (form ∷ script ∷ []) = if bytes_eq form (codes "replay") then Some (Replay script) else None
 form_of (form ∷ first ∷ second ∷ []) =

@@ -1,5 +1,5 @@
--- Commands of which some first ones carry a table into a device, in a live run: what is asked of their replies, and what
--- they leave. This project's own.
+-- Commands of which some first ones carry a table into a device, in a live run: what is asked of their replies, and
+-- what they leave. This project's own.
 use Rattle.std.specs.Prelude.{ℕ, ◌≡◌, List, map, false, All, Ok}
 use Rattle.admin_wire.specs.declared.command.Command.{Command}
 use Rattle.cap_table.specs.Caps.{CapsParts}

@@ -10,7 +10,8 @@ use Rattle.vnff_run.specs.declared.live_run.LiveRun.{LiveRun}
 -- `packet I after K ACTION`: the action of a frame with the objects that K accepted changes leave. Frames count from 0.
 unfoldable pub live_line : ℕ → ℕ → Action → List ℕ
 live_line number after action =
-    codes "packet " ++ (decimal number ++ (codes " after " ++ (decimal after ++ (codes " " ++ (action_text action ++ line_feed)))))
+    codes "packet "
+    ++ (decimal number ++ (codes " after " ++ (decimal after ++ (codes " " ++ (action_text action ++ line_feed)))))
 
 -- the line of a packet with its number
 abbrev pub numbered_line : ℕ × PacketLine → List ℕ

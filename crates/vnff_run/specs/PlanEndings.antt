@@ -16,7 +16,8 @@ WherePlanned shelf plan P = IfSome shelf.files (λ files. P (plan files))
 
 -- A call ended with a status that was to carry a plan out. A sink may have failed of the rack that was
 -- lent to it, and then it may have ended so.
-pub record EndsAs (sink steers : Type 0) (shelf shelf_new : ShelfState) (out out_new : OutputState) (plan : Files → Plan) (status : ℕ) : Type 0 where
+pub record EndsAs (sink steers : Type 0) (shelf shelf_new : ShelfState) (out out_new : OutputState)
+    (plan : Files → Plan) (status : ℕ) : Type 0 where
   pub known : status ≤ memory_status
   pub done : status ≤ words_status
       → WherePlanned shelf plan (λ p. (status ≡ plan_status p) × WroteText p out out_new)

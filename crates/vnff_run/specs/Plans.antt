@@ -1,5 +1,5 @@
--- What words and files ask the program for, this project's own: to end with one outcome, or to carry a live run out, whose
--- text has a choice. No shelf and no output fails, but by a file that isn't there.
+-- What words and files ask the program for, this project's own: to end with one outcome, or to carry a live run out,
+-- whose text has a choice. No shelf and no output fails, but by a file that isn't there.
 use Rattle.std.specs.Prelude.{ℕ, ◌≡◌, List, length, nat_le, if◌then◌else◌, Option, Some, None, Result, Ok, Err}
 use Rattle.vnff_base.specs.Outputs.{OutputState}
 use Rattle.vnff_base.specs.Shelves.{Files}

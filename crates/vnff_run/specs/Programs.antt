@@ -1,5 +1,5 @@
--- Tables on a device: what the code knows of a compiled one, what its faults end a form with, and the parts of its text.
--- The code's own.
+-- Tables on a device: what the code knows of a compiled one, what its faults end a form with, and the parts of its
+-- text. The code's own.
 use Rattle.std.specs.Prelude.{ℕ, ◌≡◌, ⊤, List, [], ◌∷◌, All, Option, Some, None, Result, Ok, Err, decimal}
 use Rattle.ff_headers.specs.SelectorParts.{SelectorParts}
 use Rattle.admin_wire.specs.Layouts.{command_bytes}

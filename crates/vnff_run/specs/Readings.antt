@@ -29,10 +29,10 @@ pub record HasSmallNumbers (unread : UnreadLines) : Type 0 where
   pub missing : unread.missing < 2 ^ 32
 
 -- a line, as definitions see it
-abbrev pub numbered : Line → NumberedLine
-numbered line = record { number = line.number; words = words_of line.text.now }
+abbrev pub numbered_words : Line → NumberedLine
+numbered_words line = record { number = line.number; words = words_of line.text.now }
 
 -- the line that was taken already and those that are left behind it; where there was none, none is left
 abbrev pub lines_from : Option Line → List NumberedLine → List NumberedLine
 lines_from None left = []
-lines_from (Some line) left = numbered line ∷ left
+lines_from (Some line) left = numbered_words line ∷ left

@@ -1,15 +1,15 @@
--- What the forms did with the sinks of a rack, beside what they read and wrote. Nothing but a failed call of a sink raises
--- its count of failures.
+-- What the forms did with the sinks of a rack, beside what they read and wrote. Nothing but a failed call of a sink
+-- raises its count of failures.
 use Rattle.std.specs.Prelude.{◌≡◌, ℕ, true, false, List, length, Option, Some, None, IfSome, IsSomeAnd, MatchOption, Result, Ok, Err}
 use Rattle.rx_sinks.specs.Racks.{OneRose}
 use Rattle.rx_sinks.specs.Sinks.{SinkState}
 use Rattle.vnff_base.specs.Outputs.{OutputState}
 use Rattle.vnff_base.specs.Shelves.{Files, ShelfState}
-use Rattle.vnff_run.specs.Endings.{FormEnds, FormStops, IsUntouched, NoReadFailed}
-use Rattle.vnff_run.specs.Forms.{WordForm}
+use Rattle.vnff_run.specs.Endings.{AppendedNothing, FormEnds, FormStops, IsUntouched, NoReadFailed}
+use Rattle.vnff_run.specs.Forms.{WordForm, form_of}
 use Rattle.vnff_run.specs.Outcomes.{outcome_in}
-use Rattle.vnff_run.specs.SteerInputs.{is_steer, steering_by}
-use Rattle.vnff_run.specs.Steering.{AllSteered, FrontSteered, Steering}
+use Rattle.vnff_run.specs.SteerInputs.{is_steer, steering_by, steering_of}
+use Rattle.vnff_run.specs.Steering.{AllSteered, FrontSteered, Steered, Steering}
 use Rattle.vnff_run.specs.declared.stop.Stop.{Stop}
 use Rattle.vnff_run.specs.declared.stop.Stop.TheVariants as stops
 
@@ -23,11 +23,23 @@ SinkFailed shelf steering old new =
     OneRose (length old) old new × OfSteering shelf steering (λ run. OneRose run.pairs old new)
 
 -- Where the shelf tells its files, P holds of what is steered, and the sinks are as before where nothing is.
-abbrev pub SinksAre : ShelfState → (Files → Option Steering) → List SinkState → List SinkState → (Steering → Type 0) → Type 0
+abbrev pub SinksAre : ShelfState → (Files → Option Steering) → List SinkState → List SinkState → (Steering → Type 0)
+    → Type 0
 SinksAre shelf steering old new P = IfSome shelf.files (λ files. MatchOption (steering files) (new ≡ old) P)
 
+-- The sinks are as a run with this status leaves them: where there is something to steer, 0 and 4 say what they got.
+abbrev pub SinksSteered : ShelfState → (Files → Option Steering) → ℕ → List SinkState → List SinkState → Type 0
+SinksSteered shelf steering status old new = SinksAre shelf steering old new (λ run. Steered run status old new)
+
+-- The words are those of `steer`, a sink failed that they call, and nothing was written.
+abbrev pub SteerFailed : List (List ℕ) → ShelfState → OutputState → OutputState → List SinkState → List SinkState
+    → Type 0
+SteerFailed words shelf out out_new old new =
+    (is_steer (form_of words) ≡ true) × SinkFailed shelf (steering_of words) old new × AppendedNothing out out_new
+
 -- Why a form stopped, and what it had done with the sinks: nothing, but where a write or a sink failed.
-abbrev pub StopsWith : WordForm → ShelfState → ShelfState → OutputState → OutputState → List SinkState → List SinkState → Stop → Type 0
+abbrev pub StopsWith : WordForm → ShelfState → ShelfState → OutputState → OutputState → List SinkState → List SinkState
+    → Stop → Type 0
 StopsWith form shelf shelf_new out out_new old new stops.SinkFault =
     NoReadFailed shelf shelf_new × IsUntouched out out_new × (is_steer (Some form) ≡ true)
     × SinkFailed shelf (steering_by (Some form)) old new
@@ -43,7 +55,8 @@ StopsWith form shelf shelf_new out out_new old new stop =
     FormStops shelf shelf_new out out_new (outcome_in form) stop × (new ≡ old)
 
 -- A form is carried out with status 0, or stops.
-abbrev pub FormDoes : {A : Type 0} → WordForm → ShelfState → ShelfState → OutputState → OutputState → List SinkState → List SinkState → Result A Stop → Type 0
+abbrev pub FormDoes : {A : Type 0} → WordForm → ShelfState → ShelfState → OutputState → OutputState → List SinkState
+    → List SinkState → Result A Stop → Type 0
 FormDoes form shelf shelf_new out out_new old new (Ok x) =
     FormEnds shelf shelf_new out out_new (outcome_in form) (Ok x)
     × (is_steer (Some form) ≡ false → new ≡ old)

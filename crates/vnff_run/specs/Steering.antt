@@ -1,5 +1,5 @@
--- What `steer` does with the frames of a capture, this project's own: each goes to the sink of its queue, and the counts
--- of frames are printed.
+-- What `steer` does with the frames of a capture, this project's own: each goes to the sink of its queue, and the
+-- counts of frames are printed.
 use Rattle.std.specs.Prelude.{◌≡◌, ◌≢◌, ℕ, Bool, false, ◌==◌, List, ◌++◌, length, filter, take, codes, decimal, Option, Some, None, is_none}
 use Rattle.std.specs.List.{flat_map, range_with_len}
 use Rattle.ff_headers.specs.Frames.{headers_of}
@@ -81,10 +81,11 @@ AllSteered run old new =
 abbrev pub FrontSteered : Steering → List SinkState → List SinkState → Type 0
 FrontSteered run old new =
     (n : ℕ)
-    × FirstSinks run.pairs (λ q a b. Follows (finished (appended a (sink_list run.objects (take n run.frames) q))) b) old new
+    × FirstSinks run.pairs
+    (λ q a b. Follows (finished (appended a (sink_list run.objects (take n run.frames) q))) b) old new
 
--- What a run of `steer` that ended with a status did with the sinks: all of it, or a front where a sink or a write failed,
--- or nothing.
+-- What a run of `steer` that ended with a status did with the sinks: all of it, or a front where a sink or a write
+-- failed, or nothing.
 pub record Steered (run : Steering) (status : ℕ) (old new : List SinkState) : Type 0 where
   pub done : status ≡ 0 → AllSteered run old new
   pub failed : status ≡ 4 → FrontSteered run old new

@@ -61,7 +61,9 @@ table_or_refusal (Err err) = Err (table_fault err)
 
 -- the table in the file of that name, for so many queue pairs
 unfoldable pub table_in : ℕ → List ℕ → Files → Result TableMap InputFault
-table_in pairs name files = bytes_in kinds.Table name files >>= λ bytes. table_or_refusal (table_of pairs (word_lines bytes))
+table_in pairs name files = do
+  bytes ← bytes_in kinds.Table name files
+  table_or_refusal (table_of pairs (word_lines bytes))
 
 -- ---- the commands
 

@@ -24,8 +24,8 @@ table_reason_word reasons.NoSuchLoc = codes "no-such-loc"
 table_reason_word reasons.NoAction = codes "no-action"
 table_reason_word reasons.Full = codes "full"
 
--- where the part of a capture stands that is at fault: in the header the magic number at 0, the version at 4 and the link
--- type at 20, or a record
+-- where the part of a capture stands that is at fault: in the header the magic number at 0, the version at 4 and the
+-- link type at 20, or a record
 abbrev pub fault_offset : CaptureErr → ℕ
 fault_offset (Truncated offset) = offset
 fault_offset Magic = 0

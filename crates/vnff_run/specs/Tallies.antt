@@ -10,9 +10,10 @@ abbrev pub no_frames : Tally
 no_frames = record { queues = replicate 16 0; dropped = 0 }
 
 -- one more frame, which went to a queue or to none
-abbrev pub counted : Tally → Option ℕ → Tally
-counted tally None = record tally { dropped = tally.dropped + 1 }
-counted tally (Some queue) = record tally { queues = slice_set tally.queues queue (slice_index tally.queues queue + 1) }
+abbrev pub tally_with : Tally → Option ℕ → Tally
+tally_with tally None = record tally { dropped = tally.dropped + 1 }
+tally_with tally (Some queue) =
+    record tally { queues = slice_set tally.queues queue (slice_index tally.queues queue + 1) }
 
 -- The counts are those of the frames that go to each queue, of 16, and of those that are dropped.
 pub record IsTallyOf (objects : FlowObjects) (frames : List (List ℕ)) (tally : Tally) : Type 0 where

@@ -87,7 +87,8 @@ fn put_next_number<O: Out>(out: &mut O, number: u32) -> Result<(), Failed>
 /// Writes the lines of selectors, unless they are those that a device has without such a line.
 #[tactic(auto, unfolding(crate::specs::ScriptTexts::selector_lines))]
 fn put_selectors<O: Out>(out: &mut O, caps: &DeviceCaps) -> Result<(), Failed>
-    ensures { Writes (O.state out.old) (O.state out.new) (flat_map line_text (selector_lines caps.now.selectors)) result }
+    ensures { Writes (O.state out.old) (O.state out.new)
+        (flat_map line_text (selector_lines caps.now.selectors)) result }
 {
     if has_all_selectors(caps) {
         return Ok(());

@@ -7,7 +7,7 @@ ghost use Rattle.split_queue.specs.DeviceEnds.{device_start};
 ghost use Rattle.split_queue.specs.Setup.{setup_fault};
 ghost use Rattle.vnff_base.specs.Gatherings.{Gathers};
 ghost use Rattle.vnff_base.specs.Outputs.{Writes};
-ghost use Rattle.vnff_run.specs.Drain.{chain_lines, drain_last, drain_text, drained};
+ghost use Rattle.vnff_run.specs.Drain.{chain_lines, drain_last, drain_text, drained_chains};
 ghost use Rattle.vnff_run.specs.Endings.{FormEnds, RunsAs};
 ghost use Rattle.vnff_run.specs.Forms.{Drain};
 ghost use Rattle.vnff_run.specs.Outcomes.{drain_outcome, outcome_in};
@@ -95,7 +95,7 @@ fn put_chains<O: Out>(
     requires placed { setup_fault end.old.place (length mem.old) ≡ None }
     requires bytes { IsBytes mem.old }
     ensures lines { Gathers (O.state out.old) (O.state out.new) text.old text.new
-        (chain_lines (drained mem.old end.old.place)) result }
+        (chain_lines (drained_chains mem.old end.old.place)) result }
     ensures last { IfOk result (λ last. last ≡ drain_last mem.old end.old.place) }
 {
     let mut next = 0;

@@ -58,7 +58,8 @@ fn read_lines(alloc: Global, reader: &mut LineReader) -> Result<Script, ScriptFa
     Ok(Script { caps, start, items })
 }
 
-/// The device that the bytes of a file spell, at most 67,108,864 of them, as a script without items, or its first fault.
+/// The device that the bytes of a file spell, at most 67,108,864 of them, as a script without items, or its first
+/// fault.
 pub fn read_device_file(alloc: Global, bytes: &[u8]) -> Result<Script, ScriptFault>
     requires { length bytes.now ≤ file_limit }
     ensures { MatchResult result (λ script. device_file_of bytes.now ≡ Ok script)

@@ -1,12 +1,12 @@
 //! Scripts and tables, what they print, and the program's call.
 //!
 //! [`plain`] is the call of all forms that wait for nobody. It reads the files that its words name from any shelf and
-//! writes lines to any output: of a script, each command goes through the ring of a bench, and each frame is searched in the bench's
-//! tables; of a table of flow steering rules, the commands that it is compiled to, or what a bench that was sent them
-//! does with each frame of a capture, or with frames that are drawn from a seed; of a script and a capture, the frames
-//! go to the sinks of their queues; of an image of guest memory, each chain of a split virtqueue is gathered. Bench,
-//! queue, compiling, captures and loads are those of the crates below; scripts, texts, statuses and limits are this
-//! project's own.
+//! writes lines to any output: of a script, each command goes through the ring of a bench, and each frame is searched
+//! in the bench's tables; of a table of flow steering rules, the commands that it is compiled to, or what a bench that
+//! was sent them does with each frame of a capture, or with frames that are drawn from a seed; of a script and a
+//! capture, the frames go to the sinks of their queues; of an image of guest memory, each chain of a split virtqueue is
+//! gathered. Bench, queue, compiling, captures and loads are those of the crates below; scripts, texts, statuses and
+//! limits are this project's own.
 //!
 //! [`top`] also carries live runs out, in which workers classify frames while commands change the rules; it hands all
 //! other words to `plain`. A live run has many texts, those of its legal runs: where the shelf tells its files and the
@@ -19,16 +19,17 @@
 //! script as that script.
 //!
 //! The way of a run: `form` (what the words ask for; `drain_words` has the place of a queue, `load_words` the number of
-//! frames), a module for each form (`replay`, `compile`, `table`, `steering`, `load`, `drain`), which reads its files by
-//! `file`, `compiled` or `image` and runs, and `ending` (its status, and the line of a refusal); `stop` has why a form
-//! ends early, and `table_refusal` why tables and captures are refused. What is written is gathered by `text`, `tally`,
-//! `load_text` and `drain_text`; `delivery` hands frames to sinks; `compile_text` writes the script of a compiled table.
-//! Scripts are read by `grammar`, line by line: `device_line` (the first two lines), `select_line` and `item_line`, over
-//! the words that `word` reads.
+//! frames), a module for each form (`replay`, `compile`, `table`, `steering`, `load`, `drain`), which reads its files
+//! by `file`, `compiled` or `image` and runs, and `ending` (its status, and the line of a refusal); `stop` has why a
+//! form ends early, and `table_refusal` why tables and captures are refused. What is written is gathered by `text`,
+//! `tally`, `load_text` and `drain_text`; `delivery` hands frames to sinks; `compile_text` writes the script of a
+//! compiled table. Scripts are read by `grammar`, line by line: `device_line` (the first two lines), `select_line` and
+//! `item_line`, over the words that `word` reads.
 //!
-//! Live runs: `live_words` (what the words ask for), `live_run` (what is read), `live_call` (how a run ends), `live_text`
-//! (its lines), `live_laws`; `top_call` has the call. In specs/ `LiveWords`, `LiveRuns`, `LiveTexts` (the texts of a live run),
-//! `Plans` (one outcome or a live run) and `LiveOrders` (tables in live runs); `LiveEndings` and `PlanEndings` are the code's own.
+//! Live runs: `live_words` (what the words ask for), `live_run` (what is read), `live_call` (how a run ends),
+//! `live_text` (its lines), `live_laws`; `top_call` has the call. In specs/ `LiveWords`, `LiveRuns`, `LiveTexts` (the
+//! texts of a live run), `Plans` (one outcome or a live run) and `LiveOrders` (tables in live runs); `LiveEndings` and
+//! `PlanEndings` are the code's own.
 //!
 //! Definitions, in specs/: `Forms` (of words), `Inputs` and `TableInputs` (what the files give, or what is at fault
 //! with them) and `Outcomes` (statuses and texts, form by form); `Grammar` (scripts), `DeviceLines`, `SelectLines` and
@@ -36,9 +37,10 @@
 //! `Spellable` (which scripts have one); `Replay`, `CompileTexts`, `Tables` and `Loads` (what these forms write) and
 //! `TableRefusals` (the words of refusals); `Steering` and `SteerInputs` (what is steered, and what sinks get);
 //! `LoadWords`, `DrainWords` and `Drain` (the words behind `gen` and `drain`, and what a drain finds and writes).
-//! `Readings`, `Endings`, `SteerEndings`, `Results`, `Programs`, `Deliveries` and `Tallies` are the code's own. The laws
-//! that stand on no other call are those of `laws`. Worked rows stand in `proofs/Rows.antt`, `proofs/TableRows.antt`,
-//! `proofs/LoadRows.antt` and `proofs/DrainRows.antt`, faulty texts in `proofs/GrammarExamples.antt`.
+//! `Readings`, `Endings`, `SteerEndings`, `Results`, `Programs`, `Deliveries` and `Tallies` are the code's own. The
+//! laws that stand on no other call are those of `laws`. Worked rows stand in `proofs/Rows.antt`,
+//! `proofs/TableRows.antt`, `proofs/LoadRows.antt` and `proofs/DrainRows.antt`, faulty texts in
+//! `proofs/GrammarExamples.antt`.
 #![tactic(auto)]
 
 mod compile;

@@ -1,5 +1,5 @@
-//! The form `live WORKERS FIRST SCRIPT CAPTURE`: commands change the rules while workers classify frames, and then a line
-//! for each reply and for each frame.
+//! The form `live WORKERS FIRST SCRIPT CAPTURE`: commands change the rules while workers classify frames, and then a
+//! line for each reply and for each frame.
 
 ghost use Rattle.std.specs.Prelude.{◌≡◌, ◌≤◌, Ok, length};
 ghost use Rattle.vnff_run.specs.Inputs.{file_limit};
@@ -18,8 +18,8 @@ use std::thread::Threads;
 use steer::{Gate, LiveResult, live};
 use vnff_base::{Out, Shelf};
 
-/// Runs the commands of a script beside workers that classify the frames of a capture, and gives the exit status. It may
-/// wait.
+/// Runs the commands of a script beside workers that classify the frames of a capture, and gives the exit status. It
+/// may wait.
 pub(crate) fn run_live<R: Threads + Wait + Sync, S: Shelf, O: Out, G: Gate>(
     rt: &R,
     alloc: Global,

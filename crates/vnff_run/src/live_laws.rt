@@ -23,11 +23,11 @@ pub fn plans_have_texts()
 {}
 
 /// Let the first commands of a live run carry a table that is compiled for the device, which starts ready. Those before
-/// the first that is refused for want of memory are answered with OK. Where none of them is refused so, the objects after
-/// the changes that they made do with every frame what the table does.
+/// the first that is refused for want of memory are answered with OK. Where none of them is refused so, the objects
+/// after the changes that they made do with every frame what the table does.
 pub fn live_runs_carry_tables()
-    ensures obeyed { (caps : CapsParts) (table : TableMap) (lines more : List AdminLine) (replies : List (List ℕ)) (k : ℕ)
-        → CarryTable caps table lines → AreAnswered (start_state caps starts.Ready) (lines ++ more) replies
+    ensures obeyed { (caps : CapsParts) (table : TableMap) (lines more : List AdminLine) (replies : List (List ℕ))
+        (k : ℕ) → CarryTable caps table lines → AreAnswered (start_state caps starts.Ready) (lines ++ more) replies
         → k < length lines → HaveMemory (take (k + 1) replies) → slice_get replies k ≡ Some ok_reply }
     ensures acts { (caps : CapsParts) (table : TableMap) (lines more : List AdminLine) (replies : List (List ℕ))
         (frame : List ℕ) → CarryTable caps table lines

@@ -19,7 +19,7 @@ ghost use Rattle.vnff_run.specs.Tables.{DoesAs};
 use crate::compiled::{CompiledTable, compiled_for};
 use crate::load_text::put_summary;
 use crate::stop::Stop;
-use crate::table::programmed;
+use crate::table::bench_with_commands;
 use ff_headers::Action;
 use generated_load::{ActionCounts, drawn_frame, drawn_table, load_caps};
 use std::alloc::Global;
@@ -70,8 +70,8 @@ fn load_counts(alloc: Global, seed: u64, frames: u32) -> Result<ActionCounts, St
 {
     let (x, load) = compiled_load(alloc, seed)?;
     let CompiledTable { caps, commands, .. } = load;
-    let bench = programmed(alloc, caps, commands.as_slice())?;
-    Ok(counted(&bench, x, frames))
+    let bench = bench_with_commands(alloc, caps, commands.as_slice())?;
+    Ok(count_actions(&bench, x, frames))
 }
 
 /// The table of a seed with its commands, and the state after it. The device has room for the table, so nothing but
@@ -88,7 +88,7 @@ fn compiled_load(alloc: Global, seed: u64) -> Result<(u64, CompiledTable), Stop>
 }
 
 /// How often each action happens to so many frames from a state on.
-fn counted(bench: &Bench, x: u64, frames: u32) -> ActionCounts
+fn count_actions(bench: &Bench, x: u64, frames: u32) -> ActionCounts
     ghost table: { TableMap }
     requires { DoesAs bench.now.device.objects table }
     ensures { result ≡ counts_of (actions_by table (each_drawn (λ _. drawn_frame) frames x).1) }

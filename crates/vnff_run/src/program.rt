@@ -1,13 +1,12 @@
 //! The program's call: words in, files read, a text written, and a status.
 
-ghost use Rattle.std.specs.Prelude.{◌≡◌, ◌≢◌, ◌≤◌, ◌⊎◌, ◌↔◌, None, IfSome, IsSomeAnd, MatchOption, false, length, map, string_bytes, true};
+ghost use Rattle.std.specs.Prelude.{◌≡◌, ◌≢◌, ◌≤◌, ◌⊎◌, ◌↔◌, None, IsSomeAnd, false, length, map, string_bytes};
 ghost use Rattle.vnff_run.specs.Endings.{Appended, AppendedFront, AppendedNothing, NoReadFailed, NoWriteFailed};
 ghost use Rattle.vnff_run.specs.Endings.{ReadFailed, WhereTold, WriteFailed};
 ghost use Rattle.vnff_run.specs.Forms.{form_of, form_view};
 ghost use Rattle.vnff_run.specs.Outcomes.{outcome_of};
-ghost use Rattle.vnff_run.specs.SteerEndings.{FormDoes, SinkFailed};
+ghost use Rattle.vnff_run.specs.SteerEndings.{FormDoes, SinkFailed, SinksSteered, SteerFailed};
 ghost use Rattle.vnff_run.specs.SteerInputs.{is_steer, steering_of};
-ghost use Rattle.vnff_run.specs.Steering.{Steered};
 
 use crate::compile::compile_table;
 use crate::drain::drain;
@@ -24,8 +23,8 @@ use vnff_base::{Out, Shelf};
 
 /// Runs the program on its words, without its own name, and gives its exit status: 0 done, 1 an input was refused, 2
 /// the words are no form, 3 a read failed, 4 a write failed, 5 memory ran out. The forms that are built:
-/// `replay SCRIPT`, `gen SEED N`, `compile DEVICE TABLE`, `steer SCRIPT CAPTURE`, `table DEVICE TABLE CAPTURE` and `drain
-/// IMAGE SIZE DESC AVAIL USED`.
+/// `replay SCRIPT`, `gen SEED N`, `compile DEVICE TABLE`, `steer SCRIPT CAPTURE`, `table DEVICE TABLE CAPTURE` and
+/// `drain IMAGE SIZE DESC AVAIL USED`.
 pub fn plain<S: Shelf, O: Out>(
     alloc: Global,
     words: &[String],
@@ -61,10 +60,8 @@ pub fn plain<S: Shelf, O: Out>(
 
     // 4 is a failure of the output, or with `steer` of a sink, and then nothing was written.
     ensures write { result ≡ 4 → WriteFailed (O.state out.old) (O.state out.new)
-        ⊎ (is_steer (form_of (map string_bytes words.now)) ≡ true)
-        × SinkFailed (S.state shelf.old) (steering_of (map string_bytes words.now))
-        (⟦<Rack as SinkList>⟧.sinks rack.old) (⟦<Rack as SinkList>⟧.sinks rack.new)
-        × AppendedNothing (O.state out.old) (O.state out.new) }
+        ⊎ SteerFailed (map string_bytes words.now) (S.state shelf.old) (O.state out.old) (O.state out.new)
+        (⟦<Rack as SinkList>⟧.sinks rack.old) (⟦<Rack as SinkList>⟧.sinks rack.new) }
 
     // A failure of the shelf or the output is answered by 3 or 4, and never by another status.
     ensures no_read { result ≢ 3 → NoReadFailed (S.state shelf.old) (S.state shelf.new) }
@@ -81,9 +78,8 @@ pub fn plain<S: Shelf, O: Out>(
         → ⟦<Rack as SinkList>⟧.sinks rack.new ≡ ⟦<Rack as SinkList>⟧.sinks rack.old }
 
     // Where there is something to steer, 0 and 4 say what the sinks got.
-    ensures sinks { IfSome (S.state shelf.old).files (λ files. MatchOption (steering_of (map string_bytes words.now) files)
-        (⟦<Rack as SinkList>⟧.sinks rack.new ≡ ⟦<Rack as SinkList>⟧.sinks rack.old)
-        (λ steering. Steered steering result (⟦<Rack as SinkList>⟧.sinks rack.old) (⟦<Rack as SinkList>⟧.sinks rack.new))) }
+    ensures sinks { SinksSteered (S.state shelf.old) (steering_of (map string_bytes words.now)) result
+        (⟦<Rack as SinkList>⟧.sinks rack.old) (⟦<Rack as SinkList>⟧.sinks rack.new) }
 {
     match form_of(words) {
         Some(form) => exit_status(run(alloc, form, shelf, out, rack), out),
@@ -100,7 +96,8 @@ fn run<S: Shelf, O: Out>(
     rack: &mut Rack,
 ) -> Result<(), Stop>
     requires { length (⟦<Rack as SinkList>⟧.sinks rack.old) ≡ 16 }
-    ensures { FormDoes (form_view form.entry) (S.state shelf.old) (S.state shelf.new) (O.state out.old) (O.state out.new)
+    ensures { FormDoes (form_view form.entry)
+        (S.state shelf.old) (S.state shelf.new) (O.state out.old) (O.state out.new)
         (⟦<Rack as SinkList>⟧.sinks rack.old) (⟦<Rack as SinkList>⟧.sinks rack.new) result }
 {
     match form {

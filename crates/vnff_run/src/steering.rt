@@ -78,12 +78,12 @@ fn steer_script<O: Out>(
 {
     let pairs = script.caps.pairs();
     let mut text = Gathered::new(alloc)?;
-    let bench = commanded(alloc, script)?;
+    let bench = bench_behind_script(alloc, script)?;
     hand_on(&bench, pairs, frames, &mut text, out, rack)
 }
 
 /// A device of its own behind the commands of a script.
-fn commanded(alloc: Global, script: Script) -> Result<Bench, AllocError>
+fn bench_behind_script(alloc: Global, script: Script) -> Result<Bench, AllocError>
     requires { All IsWithin script.items }
     ensures { IfOk result (λ bench.
         bench.device ≡ state_behind (start_state script.caps script.start) script.items) }

@@ -60,12 +60,12 @@ fn classify_all<O: Out>(
     ensures { RunsAs (O.state out.old) (O.state out.new) (done_outcome (table_text table frames.now)) result }
 {
     let CompiledTable { caps, commands, .. } = compiled;
-    let bench = programmed(alloc, caps, commands.as_slice())?;
+    let bench = bench_with_commands(alloc, caps, commands.as_slice())?;
     put_lines(alloc, &bench, frames, out)
 }
 
 /// A device that was sent the commands.
-pub(crate) fn programmed(
+pub(crate) fn bench_with_commands(
     alloc: Global,
     caps: DeviceCaps,
     commands: &[Command],

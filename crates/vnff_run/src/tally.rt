@@ -5,7 +5,7 @@ ghost use Rattle.std.specs.List.{flat_map, range_with_len};
 ghost use Rattle.vnff_base.specs.Gatherings.{Gathers};
 ghost use Rattle.vnff_base.specs.Outputs.{Writes};
 ghost use Rattle.vnff_run.specs.Steering.{drop_line, queue_line};
-ghost use Rattle.vnff_run.specs.Tallies.{count_line, counted, no_frames, tally_text};
+ghost use Rattle.vnff_run.specs.Tallies.{count_line, no_frames, tally_text, tally_with};
 
 use crate::text::put_number;
 use vnff_base::{Failed, Gathered, Out};
@@ -33,7 +33,7 @@ impl Tally {
         requires within { (q : ℕ) → queue ≡ Some q → q < 16 }
         requires room { (q : ℕ) → queue ≡ Some q → slice_index self.old.queues q < 2 ^ 64 - 1 }
         requires room_dropped { queue ≡ None → self.old.dropped < 2 ^ 64 - 1 }
-        ensures { self.new ≡ counted self.old queue }
+        ensures { self.new ≡ tally_with self.old queue }
     {
         match queue {
             Some(queue) => self.queues[queue as usize] += 1,

@@ -1,13 +1,12 @@
 //! The program's call, with the live runs that may wait.
 
-ghost use Rattle.std.specs.Prelude.{◌≡◌, ◌≢◌, ◌≤◌, ◌⊎◌, None, IfSome, IsSomeAnd, MatchOption, false, length, map, string_bytes, true};
+ghost use Rattle.std.specs.Prelude.{◌≡◌, ◌≢◌, ◌≤◌, ◌⊎◌, None, IsSomeAnd, false, length, map, string_bytes};
 ghost use Rattle.vnff_run.specs.Endings.{AppendedNothing, NoReadFailed, NoWriteFailed, ReadFailed, WriteFailed};
 ghost use Rattle.vnff_run.specs.Forms.{form_of};
 ghost use Rattle.vnff_run.specs.LiveWords.{live_of};
 ghost use Rattle.vnff_run.specs.PlanEndings.{EndsAs, WherePlanned};
-ghost use Rattle.vnff_run.specs.SteerEndings.{SinkFailed};
+ghost use Rattle.vnff_run.specs.SteerEndings.{SinkFailed, SinksSteered, SteerFailed};
 ghost use Rattle.vnff_run.specs.SteerInputs.{is_steer, steering_of};
-ghost use Rattle.vnff_run.specs.Steering.{Steered};
 ghost use Rattle.vnff_run.specs.Plans.{WroteFront, WroteText, plan_of, plan_status};
 
 use crate::live_call::run_live;
@@ -25,9 +24,9 @@ use vnff_base::{Out, Shelf};
 /// out. `live WORKERS FIRST SCRIPT CAPTURE` is run here, and may wait; its workers and commands call the gate on their
 /// way. All other words are those of [`plain`].
 ///
-/// The plan of words and files is one outcome, or a live run, which has as many texts as workers and commands have ways to
-/// interleave: in each, every reply is the machine's or the refusal for want of memory, and every frame's action is that
-/// of the first matching rule after the printed number of accepted changes.
+/// The plan of words and files is one outcome, or a live run, which has as many texts as workers and commands have ways
+/// to interleave: in each, every reply is the machine's or the refusal for want of memory, and every frame's action is
+/// that of the first matching rule after the printed number of accepted changes.
 pub fn top<R: Threads + Wait + Sync, S: Shelf, O: Out, G: Gate>(
     rt: &R,
     alloc: Global,
@@ -67,10 +66,8 @@ pub fn top<R: Threads + Wait + Sync, S: Shelf, O: Out, G: Gate>(
 
     // 4 is a failure of the output, or with `steer` of a sink, and then nothing was written.
     ensures write { result ≡ 4 → WriteFailed (O.state out.old) (O.state out.new)
-        ⊎ (is_steer (form_of (map string_bytes words.now)) ≡ true)
-        × SinkFailed (S.state shelf.old) (steering_of (map string_bytes words.now))
-        (⟦<Rack as SinkList>⟧.sinks rack.old) (⟦<Rack as SinkList>⟧.sinks rack.new)
-        × AppendedNothing (O.state out.old) (O.state out.new) }
+        ⊎ SteerFailed (map string_bytes words.now) (S.state shelf.old) (O.state out.old) (O.state out.new)
+        (⟦<Rack as SinkList>⟧.sinks rack.old) (⟦<Rack as SinkList>⟧.sinks rack.new) }
 
     // A failure of the shelf or the output is answered by 3 or 4, and never by another status.
     ensures no_read { result ≢ 3 → NoReadFailed (S.state shelf.old) (S.state shelf.new) }
@@ -87,9 +84,8 @@ pub fn top<R: Threads + Wait + Sync, S: Shelf, O: Out, G: Gate>(
         → ⟦<Rack as SinkList>⟧.sinks rack.new ≡ ⟦<Rack as SinkList>⟧.sinks rack.old }
 
     // Where there is something to steer, 0 and 4 say what the sinks got.
-    ensures sinks { IfSome (S.state shelf.old).files (λ files. MatchOption (steering_of (map string_bytes words.now) files)
-        (⟦<Rack as SinkList>⟧.sinks rack.new ≡ ⟦<Rack as SinkList>⟧.sinks rack.old)
-        (λ steering. Steered steering result (⟦<Rack as SinkList>⟧.sinks rack.old) (⟦<Rack as SinkList>⟧.sinks rack.new))) }
+    ensures sinks { SinksSteered (S.state shelf.old) (steering_of (map string_bytes words.now)) result
+        (⟦<Rack as SinkList>⟧.sinks rack.old) (⟦<Rack as SinkList>⟧.sinks rack.new) }
 {
     carry_out(rt, alloc, words, shelf, out, rack, gate)
 }
@@ -109,10 +105,8 @@ fn carry_out<R: Threads + Wait + Sync, S: Shelf, O: Out, G: Gate>(
     ensures ends { EndsAs
         (SinkFailed (S.state shelf.old) (steering_of (map string_bytes words.now))
         (⟦<Rack as SinkList>⟧.sinks rack.old) (⟦<Rack as SinkList>⟧.sinks rack.new))
-        ((is_steer (form_of (map string_bytes words.now)) ≡ true)
-        × SinkFailed (S.state shelf.old) (steering_of (map string_bytes words.now))
-        (⟦<Rack as SinkList>⟧.sinks rack.old) (⟦<Rack as SinkList>⟧.sinks rack.new)
-        × AppendedNothing (O.state out.old) (O.state out.new))
+        (SteerFailed (map string_bytes words.now) (S.state shelf.old) (O.state out.old) (O.state out.new)
+        (⟦<Rack as SinkList>⟧.sinks rack.old) (⟦<Rack as SinkList>⟧.sinks rack.new))
         (S.state shelf.old) (S.state shelf.new) (O.state out.old) (O.state out.new)
         (plan_of (map string_bytes words.now)) result }
     ensures words { live_of (map string_bytes words.now) ≡ None → form_of (map string_bytes words.now) ≡ None
@@ -122,9 +116,8 @@ fn carry_out<R: Threads + Wait + Sync, S: Shelf, O: Out, G: Gate>(
         → ⟦<Rack as SinkList>⟧.sinks rack.new ≡ ⟦<Rack as SinkList>⟧.sinks rack.old }
     ensures same_sinks { result ≢ 0 → result ≢ 4
         → ⟦<Rack as SinkList>⟧.sinks rack.new ≡ ⟦<Rack as SinkList>⟧.sinks rack.old }
-    ensures sinks { IfSome (S.state shelf.old).files (λ files. MatchOption (steering_of (map string_bytes words.now) files)
-        (⟦<Rack as SinkList>⟧.sinks rack.new ≡ ⟦<Rack as SinkList>⟧.sinks rack.old)
-        (λ steering. Steered steering result (⟦<Rack as SinkList>⟧.sinks rack.old) (⟦<Rack as SinkList>⟧.sinks rack.new))) }
+    ensures sinks { SinksSteered (S.state shelf.old) (steering_of (map string_bytes words.now)) result
+        (⟦<Rack as SinkList>⟧.sinks rack.old) (⟦<Rack as SinkList>⟧.sinks rack.new) }
 {
     match live_of(words) {
         Some(form) => run_live(rt, alloc, form, shelf, out, gate),

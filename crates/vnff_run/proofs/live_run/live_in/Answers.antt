@@ -1,12 +1,9 @@
-use Rattle.std.proofs.Common.{Ok, Err}
 use Rattle.std.proofs.lemmas.Result.{err_from_is_err_and}
 use Rattle.vnff_run.specs.Inputs.{script_in}
 use Rattle.vnff_run.specs.LiveRuns.{live_in, live_run}
 use Rattle.vnff_run.specs.LiveWords.{live_view}
-use Rattle.vnff_run.specs.Results.{◌>>=◌}
-use Rattle.vnff_run.specs.TableInputs.{frames_in}
 use Rattle.vnff_run.proofs.InputLemmas.{read_stops}
-use Rattle.vnff_run.proofs.TableInputLemmas.{read_judged, read_then}
+use Rattle.vnff_run.proofs.TableInputLemmas.{frames_stop, frames_then}
 use Rattle.vnff_run.proofs.live_run.live_in.Goals as goal
 
 pub returns-in_err-script-clause-read : goal.returns-in_err-script-clause-read
@@ -19,15 +16,9 @@ pub returns-in_err-frames-clause-read : goal.returns-in_err-frames-clause-read
 unfolding live_in
 returns-in_err-frames-clause-read g c =
     let p = err_from_is_err_and c.from_residual-in_err-frames.result c.from_residual-in_err-frames.ensures.1 in
-    let middle = g.S.Shelf.state c.script_in.new.shelf in
-    let read = g.S.Shelf.state c.frames_in.new.shelf in
-    rw (p.1, p.2) (read_then (g.S.Shelf.state c.args.shelf.now) middle read (script_in c.args.form.script.now) (λ script files. frames_in c.args.form.capture.now files >>= λ frames. Ok (live_run (live_view c.args.form) script frames)) c.in_ok-script.script (Err c.in_err-frames.field-0.0) c.in_ok-script.ensures.read c.in_ok-script.ensures.same_files (read_stops middle read _ _ _ c.in_err-frames.ensures.read))
+    rw (p.1, p.2) (frames_stop (g.S.Shelf.state c.args.shelf.now) (g.S.Shelf.state c.script_in.new.shelf) (g.S.Shelf.state c.frames_in.new.shelf) (script_in c.args.form.script.now) c.args.form.capture.now (live_run (live_view c.args.form)) c.in_ok-script.script c.in_err-frames.field-0.0 c.in_ok-script.ensures.read c.in_ok-script.ensures.same_files c.in_err-frames.ensures.read)
 
 pub returns-clause-read : goal.returns-clause-read
 unfolding live_in
 returns-clause-read g c =
-    let middle = g.S.Shelf.state c.script_in.new.shelf in
-    let read = g.S.Shelf.state c.frames_in.new.shelf in
-    let script = c.in_ok-script.script in
-    read_then (g.S.Shelf.state c.args.shelf.now) middle read (script_in c.args.form.script.now) (λ s files. frames_in c.args.form.capture.now files >>= λ frames. Ok (live_run (live_view c.args.form) s frames)) script c.run_over.result c.in_ok-script.ensures.read c.in_ok-script.ensures.same_files
-    (read_judged middle read (frames_in c.args.form.capture.now) (λ frames. Ok (live_run (live_view c.args.form) script frames)) c.in_ok-frames.frames c.run_over.result c.in_ok-frames.ensures.read c.run_over.ensures.run)
+    frames_then (g.S.Shelf.state c.args.shelf.now) (g.S.Shelf.state c.script_in.new.shelf) (g.S.Shelf.state c.frames_in.new.shelf) (script_in c.args.form.script.now) c.args.form.capture.now (live_run (live_view c.args.form)) c.in_ok-script.script c.in_ok-frames.frames c.run_over.result c.in_ok-script.ensures.read c.in_ok-script.ensures.same_files c.in_ok-frames.ensures.read c.run_over.ensures.run

@@ -8,4 +8,4 @@ use Rattle.vnff_run.proofs.load.load_counts.Goals as goal
 pub returns-clause-counts : goal.returns-clause-counts
 unfolding drawn_frames
 returns-clause-counts g c =
-    c.counted.ensures ∙ ap (λ x. counts_of (actions_by g.table (frames_from c.args.frames x).1)) c.in_ok-x.ensures.state
+    c.count_actions.ensures ∙ ap (λ x. counts_of (actions_by g.table (frames_from c.args.frames x).1)) c.in_ok-x.ensures.state

@@ -1,11 +1,9 @@
-use Rattle.std.proofs.Common.{Ok, Err, refl}
+use Rattle.std.proofs.Common.{Ok, refl}
 use Rattle.std.proofs.lemmas.Result.{err_from_is_err_and}
 use Rattle.vnff_run.specs.Inputs.{script_in}
-use Rattle.vnff_run.specs.Results.{◌>>=◌}
 use Rattle.vnff_run.specs.SteerInputs.{steer_input_in}
-use Rattle.vnff_run.specs.TableInputs.{frames_in}
 use Rattle.vnff_run.proofs.InputLemmas.{read_stops}
-use Rattle.vnff_run.proofs.TableInputLemmas.{read_judged, read_then}
+use Rattle.vnff_run.proofs.TableInputLemmas.{frames_stop, frames_then}
 use Rattle.vnff_run.proofs.steering.steer_input_in.Goals as goal
 
 pub returns-in_err-script-clause-read : goal.returns-in_err-script-clause-read
@@ -18,15 +16,9 @@ pub returns-in_err-frames-clause-read : goal.returns-in_err-frames-clause-read
 unfolding steer_input_in
 returns-in_err-frames-clause-read g c =
     let p = err_from_is_err_and c.from_residual-in_err-frames.result c.from_residual-in_err-frames.ensures.1 in
-    let middle = g.S.Shelf.state c.script_in.new.shelf in
-    let read = g.S.Shelf.state c.frames_in.new.shelf in
-    rw (p.1, p.2) (read_then (g.S.Shelf.state c.args.shelf.now) middle read (script_in c.args.script.now) (λ s files. frames_in c.args.capture.now files >>= λ frames. Ok (s, frames)) c.in_ok-script.script (Err c.in_err-frames.field-0.0) c.in_ok-script.ensures.read c.in_ok-script.ensures.same_files (read_stops middle read _ _ _ c.in_err-frames.ensures.read))
+    rw (p.1, p.2) (frames_stop (g.S.Shelf.state c.args.shelf.now) (g.S.Shelf.state c.script_in.new.shelf) (g.S.Shelf.state c.frames_in.new.shelf) (script_in c.args.script.now) c.args.capture.now (λ script frames. (script, frames)) c.in_ok-script.script c.in_err-frames.field-0.0 c.in_ok-script.ensures.read c.in_ok-script.ensures.same_files c.in_err-frames.ensures.read)
 
 pub returns-clause-read : goal.returns-clause-read
 unfolding steer_input_in
 returns-clause-read g c =
-    let middle = g.S.Shelf.state c.script_in.new.shelf in
-    let read = g.S.Shelf.state c.frames_in.new.shelf in
-    let script = c.in_ok-script.script in
-    read_then (g.S.Shelf.state c.args.shelf.now) middle read (script_in c.args.script.now) (λ s files. frames_in c.args.capture.now files >>= λ frames. Ok (s, frames)) script (Ok (script, c.in_ok-frames.frames)) c.in_ok-script.ensures.read c.in_ok-script.ensures.same_files
-    (read_judged middle read (frames_in c.args.capture.now) (λ frames. Ok (script, frames)) c.in_ok-frames.frames (Ok (script, c.in_ok-frames.frames)) c.in_ok-frames.ensures.read refl)
+    frames_then (g.S.Shelf.state c.args.shelf.now) (g.S.Shelf.state c.script_in.new.shelf) (g.S.Shelf.state c.frames_in.new.shelf) (script_in c.args.script.now) c.args.capture.now (λ script frames. (script, frames)) c.in_ok-script.script c.in_ok-frames.frames (Ok (c.in_ok-script.script, c.in_ok-frames.frames)) c.in_ok-script.ensures.read c.in_ok-script.ensures.same_files c.in_ok-frames.ensures.read refl

@@ -3,7 +3,7 @@ use Rattle.generated_load.specs.Counts.{counts_of}
 use Rattle.generated_load.proofs.CountLemmas.{counts-below}
 use Rattle.vnff_run.specs.Loads.{actions_by}
 use Rattle.vnff_run.proofs.LoadLemmas.{actions-length, actions_more, frames_from, state_more}
-use Rattle.vnff_run.proofs.load.counted.Goals as goal
+use Rattle.vnff_run.proofs.load.count_actions.Goals as goal
 
 pub add-requires : goal.add-requires
 add-requires g c =

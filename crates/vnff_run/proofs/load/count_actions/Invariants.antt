@@ -3,7 +3,7 @@ use Rattle.std.proofs.Common.{◌≡◌}
 use Rattle.generated_load.specs.Counts.{counts_of}
 use Rattle.vnff_run.specs.Loads.{actions_by}
 use Rattle.vnff_run.proofs.LoadLemmas.{frames_from}
-use Rattle.vnff_run.proofs.load.counted.Given as goal
+use Rattle.vnff_run.proofs.load.count_actions.Given as goal
 
 abbrev pub ghost-action_of : goal.ghost-action_of
 ghost-action_of g a = g.table
