@@ -30,8 +30,8 @@ pub fn runs_are_valid()
         → IsValid (state_after state commands) }
 {}
 
-/// In every state of every run the driver's selectors are of types that the device's are of, and ask for no mask that those
-/// don't allow.
+/// In every state of every run the driver's selectors are of types that the device's are of, and ask for no mask that
+/// those don't allow.
 pub fn drivers_stay_within_the_device()
     ensures { (caps : CapsParts) (start : Start) (commands : List (List ℕ × ℕ)) → AreCaps caps
         → let state = state_after (start_state caps start) commands in
@@ -53,8 +53,8 @@ pub fn named_objects_stay()
         ≡ object_under state.objects.classifiers rule.classifier }
 {}
 
-/// A query gives back what the last accepted create or modify of the object put, with 0 in reserved bytes: after it come
-/// any commands that are refused, have no room for a reply, or aren't about the object.
+/// A query gives back what the last accepted create or modify of the object put, with 0 in reserved bytes: after it
+/// come any commands that are refused, have no room for a reply, or aren't about the object.
 pub fn queries_give_back_what_was_put()
     ensures { (state : DeviceState) (put : List ℕ) (room : ℕ) (head : ObjHead) (object : ObjData) → IsValid state
         → Puts put head object → 8 ≤ room → status_of (reply_of state put room) ≡ 0

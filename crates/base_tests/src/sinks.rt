@@ -110,8 +110,8 @@ fn sink_failing_at(alloc: Global, call: u64) -> Result<MemSink, AllocError> {
     Ok(sink)
 }
 
-/// What became of three frames in a rack of three sinks: whether all were delivered and the first two sinks finished, and which
-/// frames stand where.
+/// What became of three frames in a rack of three sinks: whether all were delivered and the first two sinks finished,
+/// and which frames stand where.
 #[derive(Debug, Drop, PartialEq)]
 struct Held {
     delivered: bool,
@@ -121,8 +121,8 @@ struct Held {
     second_of_1: bool,
 }
 
-/// Three frames, the second for sink 0 and the others for sink 1, are delivered until a call fails; then these two sinks
-/// are finished, which fail at the calls of these numbers. A third one, which fails at once, isn't called.
+/// Three frames, the second for sink 0 and the others for sink 1, are delivered until a call fails; then these two
+/// sinks are finished, which fail at the calls of these numbers. A third one, which fails at once, isn't called.
 fn steered(rt: &impl Abort, alloc: Global, first: u64, second: u64) -> Result<Held, AllocError> {
     let mut sinks: Vec<Box<dyn RxSink>> = Vec::new(alloc);
     sinks.push(Box::new(alloc, sink_failing_at(alloc, first)?)?)?;

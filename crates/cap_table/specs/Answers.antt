@@ -1,6 +1,6 @@
--- What a command is answered with where no row of the verdict table holds, and what it changes. Results are those of the
--- Virtio 1.4 draft's commands (group administration commands, device capabilities, resource objects); an object's bytes
--- are laid out as in the command that creates it.
+-- What a command is answered with where no row of the verdict table holds, and what it changes. Results are those of
+-- the Virtio 1.4 draft's commands (group administration commands, device capabilities, resource objects); an object's
+-- bytes are laid out as in the command that creates it.
 use Rattle.std.specs.Prelude.{⊤, ℕ, ◌==◌, if◌then◌else◌, nat_lt, List, [], Option, Some, None, Result, Ok, Err}
 use Rattle.std.specs.List.{flat_map}
 use Rattle.std.specs.Option.{option_map_or}

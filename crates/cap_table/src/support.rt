@@ -2,7 +2,6 @@
 
 ghost use Rattle.std.specs.Prelude.{◌≡◌, ◌==◌, IfSome};
 ghost use Rattle.std.specs.Option.{option_copied};
-ghost use Rattle.ff_headers.specs.Kinds.{kind_code};
 ghost use Rattle.cap_table.specs.Caps.{is_supported, selector_of_kind};
 
 use ff_headers::{Kind, Selector, allowed};

@@ -8,8 +8,8 @@ use Rattle.capture.specs.FileHeaders.{header_of}
 use Rattle.capture.specs.Records.{frame_of, AreRecords}
 use Rattle.capture.specs.Captures.{capture_of, IsCaptureBad}
 
--- what a feed keeps: the header, the frames of the whole records, the number of bytes before the rest, the rest, and the
--- first fault that no later byte can heal
+-- what a feed keeps: the header, the frames of the whole records, the number of bytes before the rest, the rest, and
+-- the first fault that no later byte can heal
 pub record FeedState : Type 0 where
   pub header : Option CaptureHeader
   pub frames : List (List ℕ)
@@ -64,7 +64,8 @@ IsEnded feed said = (bytes : List ℕ) → StandsFor feed bytes → said ≡ cap
 
 -- from the bytes the records of further frames were cut, so many bytes, and there is this fault where the next one is
 -- looked for
-pub record WereCut (big : Bool) (before : ℕ) (bytes : List ℕ) (old new : List (List ℕ)) (at : ℕ) (stop : CaptureErr) : Type 0 where
+pub record WereCut (big : Bool) (before : ℕ) (bytes : List ℕ) (old new : List (List ℕ)) (at : ℕ) (stop : CaptureErr)
+    : Type 0 where
   pub within : at ≤ length bytes
   pub further : (frames : List (List ℕ)) × (new ≡ old ++ frames) × AreRecords big (take at bytes) frames
   pub stops : frame_of big (before + at) (drop at bytes) ≡ Err stop

@@ -1,5 +1,5 @@
--- How a list of byte lists is kept: the bytes of all, one list after another, and the places at which each begins and ends.
--- This project's own.
+-- How a list of byte lists is kept: the bytes of all, one list after another, and the places at which each begins and
+-- ends. This project's own.
 use Rattle.std.specs.Prelude.{◌≡◌, ℕ, ◌+◌, ◌-◌, ◌<◌, ◌≤◌, List, [], ◌∷◌, length, slice_index, slice_range}
 
 -- the pieces of a list between each of the places and the next one

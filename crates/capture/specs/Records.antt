@@ -43,8 +43,8 @@ records_within (suc n) big at (b ∷ bs) =
     (records_within n big (at + (record_size + length frame)) (drop (record_size + length frame) (b ∷ bs)) >>= λ frames.
     Ok (frame ∷ frames))
 
--- the frames of the records that the bytes are, of which the first stands at an offset, or the first fault; a record has
--- at least one byte, so there are no more records than bytes
+-- the frames of the records that the bytes are, of which the first stands at an offset, or the first fault; a record
+-- has at least one byte, so there are no more records than bytes
 unfoldable pub records_of : Bool → ℕ → List ℕ → Result (List (List ℕ)) CaptureErr
 records_of big at bytes = records_within (length bytes) big at bytes
 

@@ -20,7 +20,3 @@ longest_record = record_size + longest_frame
 -- how many link types there are, as their number has 16 bits
 abbrev pub link_type_count : ℕ
 link_type_count = 65536
-
--- the most bytes that are read of a file; this project's own
-abbrev pub file_limit : ℕ
-file_limit = 67108864

@@ -3,8 +3,7 @@
 ghost use Rattle.std.specs.Prelude.{◌≡◌, ◌+◌, ◌<◌, ◌≤◌, length, Ok, Err, IfOk, IsErrOf};
 ghost use Rattle.vnff_base.specs.Counts.{count_after};
 ghost use Rattle.vnff_base.specs.Reads.{OfFile};
-ghost use Rattle.vnff_base.specs.Shelves.{HasCause};
-ghost use Rattle.capture.specs.Sizes.{file_limit};
+ghost use Rattle.vnff_base.specs.Shelves.{HasCause, file_limit};
 ghost use Rattle.capture.specs.Files.{WasRead};
 
 use crate::error::{CaptureErr, CaptureReadErr};
@@ -16,9 +15,9 @@ use vnff_base::Shelf;
 /// How many bytes are asked of the shelf at once.
 const PIECE: usize = 65_536;
 
-/// Reads the capture that is the file of that name, from its first byte to its end, at most `limit` bytes of it, in pieces
-/// of at most 65,536 bytes. The limit is 64 MiB at most. The file is never held whole: beside the frames there are a piece
-/// and what came of one record. A faulty file is read to its end all the same, since it may be too long.
+/// Reads the capture that is the file of that name, from its first byte to its end, at most `limit` bytes of it, in
+/// pieces of at most 65,536 bytes. The limit is 64 MiB at most. The file is never held whole: beside the frames there
+/// are a piece and what came of one record. A faulty file is read to its end all the same, since it may be too long.
 pub fn read_capture<S: Shelf>(
     alloc: Global,
     shelf: &mut S,

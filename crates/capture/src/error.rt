@@ -2,8 +2,8 @@
 
 use thiserror::Error;
 
-/// Why bytes are no capture: the first fault, in the order of the bytes. An offset is that of the header, 0, or that of the
-/// record at fault.
+/// Why bytes are no capture: the first fault, in the order of the bytes. An offset is that of the header, 0, or that of
+/// the record at fault.
 #[derive(Clone, Copy, Debug, PartialEq, Eq, Error)]
 pub enum CaptureErr {
     /// The header or a record is cut short by the file's end.

@@ -1,8 +1,7 @@
 //! Captures that come in pieces, and are never held whole.
 
-ghost use Rattle.std.specs.Prelude.{◌≡◌, ◌≢◌, ◌+◌, ◌^◌, ◌<◌, ◌≤◌, ℕ, List, [], ◌++◌, Some, None, Ok, length, take, drop, IfOk};
+ghost use Rattle.std.specs.Prelude.{◌≡◌, ◌≢◌, ◌+◌, ◌^◌, ◌<◌, ◌≤◌, ℕ, List, [], ◌++◌, Some, None, Ok, length, drop, IfOk};
 ghost use Rattle.capture.specs.FileHeaders.{header_of};
-ghost use Rattle.capture.specs.Records.{map_ok, frame_of, AreRecords};
 ghost use Rattle.capture.specs.Captures.{capture_of};
 ghost use Rattle.capture.specs.Feeds.{StandsFor, IsFeed, IsFedOn, IsEnded, WereCut, is_lasting};
 
@@ -62,8 +61,8 @@ impl Feed {
         }
     }
 
-    /// The feed with a further piece. After the first fault that no later byte can heal, pieces are dropped. Where memory
-    /// runs out the feed is given up.
+    /// The feed with a further piece. After the first fault that no later byte can heal, pieces are dropped. Where
+    /// memory runs out the feed is given up.
     pub fn feed(self, piece: &[u8]) -> Result<Feed, AllocError>
         requires { self.fault ≡ None → self.before + length self.rest + length piece.now < 2 ^ 64 }
         ensures stands { IfOk result (λ feed. IsFedOn self feed piece.now) }

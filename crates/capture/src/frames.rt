@@ -7,8 +7,8 @@ ghost use Rattle.capture.specs.Pieces.{pieces, ArePlaces};
 use std::alloc::{AllocError, Global};
 use std::marker::Model;
 
-/// Frames in order, which contracts see as a list of byte lists. All frames stand in one vector, with 8 bytes for each frame
-/// beside it.
+/// Frames in order, which contracts see as a list of byte lists. All frames stand in one vector, with 8 bytes for each
+/// frame beside it.
 #[derive(Debug, Drop)]
 pub struct Frames {
     bytes: Vec<u8>,

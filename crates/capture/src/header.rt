@@ -30,9 +30,9 @@ pub struct CaptureHeader {
     pub nanos: bool,
 }
 
-/// Reads the header that a capture begins with. The faults are looked for in this order: fewer than 24 bytes, an unknown
-/// magic, another version than 2.4, another link type than Ethernet. Zone, accuracy, snap length and the upper 16 bits of
-/// the last number are ignored.
+/// Reads the header that a capture begins with. The faults are looked for in this order: fewer than 24 bytes, an
+/// unknown magic, another version than 2.4, another link type than Ethernet. Zone, accuracy, snap length and the upper
+/// 16 bits of the last number are ignored.
 #[tactic(auto, unfolding(crate::specs::FileHeaders::header_of, crate::specs::FileHeaders::checked_header))]
 pub fn read_header(bytes: &[u8]) -> Result<CaptureHeader, CaptureErr>
     ensures value { result ≡ header_of bytes.now }

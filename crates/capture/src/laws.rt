@@ -32,8 +32,8 @@ pub fn frames_of_a_capture_are_short()
         → All (λ frame. length frame ≤ longest_frame) frames }
 {}
 
-/// A feed that stands for no bytes, and then is fed pieces, says at its end what the pieces read as together, however they
-/// were cut. `Feed::new`, `Feed::feed` and `Feed::finish` are such a first feed, such a step and such an end.
+/// A feed that stands for no bytes, and then is fed pieces, says at its end what the pieces read as together, however
+/// they were cut. `Feed::new`, `Feed::feed` and `Feed::finish` are such a first feed, such a step and such an end.
 pub fn pieces_are_read_together()
     ensures { (first last : FeedState) (pieces : List (List ℕ)) (said : Result (List (List ℕ)) CaptureErr)
         → StandsFor first [] → AreFed first last pieces → IsEnded last said → said ≡ capture_of (concat pieces) }

@@ -1,6 +1,6 @@
 //! All frames of a capture.
 
-ghost use Rattle.std.specs.Prelude.{◌≡◌, ◌+◌, ◌*◌, ◌≤◌, [], ◌++◌, length, drop, IfOk, Err, MatchResult};
+ghost use Rattle.std.specs.Prelude.{◌≡◌, ◌+◌, ◌*◌, ◌≤◌, length, drop, IfOk, Err, MatchResult};
 ghost use Rattle.capture.specs.Sizes.{header_size, record_size};
 ghost use Rattle.capture.specs.Records.{map_ok, with_front, records_of};
 ghost use Rattle.capture.specs.Captures.{Refuses, GivesFrames, IsCaptureBad, capture_of};
@@ -48,7 +48,8 @@ fn count_frames(bytes: &[u8], header: &CaptureHeader) -> Result<usize, CaptureEr
 fn add_frames(frames: &mut Frames, bytes: &[u8], header: &CaptureHeader) -> Result<(), FramesErr>
     requires { header_size ≤ length bytes.now }
     ensures { MatchResult result
-        (λ _. with_front frames.old (records_of header.now.big header_size (drop header_size bytes.now)) ≡ Ok frames.new)
+        (λ _. with_front frames.old (records_of header.now.big header_size (drop header_size bytes.now))
+        ≡ Ok frames.new)
         (λ err. Refuses err (records_of header.now.big header_size (drop header_size bytes.now))) }
 {
     let mut at = HEADER_SIZE;

@@ -13,11 +13,11 @@ use crate::number::number32_at;
 pub const RECORD_SIZE: usize = 16;
 
 /// The most bytes that a frame has.
-const LONGEST_FRAME: usize = 262_144;
+pub const LONGEST_FRAME: usize = 262_144;
 
-/// The frame of the record at an offset, and None exactly at the end of the bytes. The next record stands 16 bytes and the
-/// frame's length further on. The faults, at the record's offset, are looked for in this order: fewer than 16 bytes are
-/// left, the frame is longer than 262,144 bytes, the frame passes the end.
+/// The frame of the record at an offset, and None exactly at the end of the bytes. The next record stands 16 bytes and
+/// the frame's length further on. The faults, at the record's offset, are looked for in this order: fewer than 16 bytes
+/// are left, the frame is longer than 262,144 bytes, the frame passes the end.
 #[tactic(auto, unfolding(crate::specs::Records::next_of, crate::specs::Records::frame_of))]
 pub fn next_frame<'a>(
     bytes: &'a [u8],
@@ -28,7 +28,8 @@ pub fn next_frame<'a>(
     requires within { at ≤ length bytes.now }
     ensures value { map_ok option_copied result ≡ next_of header.now.big bytes.now at }
     ensures end { (result ≡ Ok None) ↔ (at ≡ length bytes.now) }
-    ensures next { IfOk result (λ found. IfSome found (λ frame. at + record_size + length frame.now ≤ length bytes.now)) }
+    ensures next { IfOk result (λ found. IfSome found (λ frame.
+        at + record_size + length frame.now ≤ length bytes.now)) }
 {
     if at == bytes.len() {
         return Ok(None);

@@ -1,19 +1,11 @@
 //! A bench: a command through its ring, and a frame.
 
+use crate::limits::LIMITS;
 use admin_dev::Start;
 use cap_table::DeviceCaps;
-use ff_headers::{Action, Limits};
+use ff_headers::Action;
 use std::test::Fail;
 use steer::Bench;
-
-const LIMITS: Limits = Limits {
-    groups: 2,
-    classifiers: 4,
-    rules: 8,
-    per_group: 8,
-    last_priority: 15,
-    selectors: 3,
-};
 
 // What a list query is answered with: all opcodes.
 const OPCODES: [u8; 16] = [0, 0, 0, 0, 0, 0, 0, 0, 131, 63, 0, 0, 0, 0, 0, 0];

@@ -1,5 +1,6 @@
 //! Capabilities of a device and of its driver.
 
+use crate::limits::LIMITS;
 use admin_wire::{CapData, RawActions, WireErr};
 use arrayvec::ArrayVec;
 use cap_table::{
@@ -8,15 +9,6 @@ use cap_table::{
 };
 use ff_headers::{Kind, Limits, Selector};
 use std::test::Fail;
-
-const LIMITS: Limits = Limits {
-    groups: 2,
-    classifiers: 4,
-    rules: 8,
-    per_group: 8,
-    last_priority: 15,
-    selectors: 3,
-};
 
 #[test]
 fn capabilities_hold_what_they_were_given(rt: HostRuntime) {

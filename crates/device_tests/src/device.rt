@@ -1,20 +1,11 @@
 //! The device: each call on its happy path. What each command is answered with, the whole-program cases show.
 
+use crate::limits::LIMITS;
 use admin_dev::{Decision, Device, Start, no_memory};
 use admin_wire::ReplyBytes;
 use cap_table::DeviceCaps;
-use ff_headers::Limits;
 use std::alloc::{AllocError, Global};
 use std::test::Fail;
-
-const LIMITS: Limits = Limits {
-    groups: 2,
-    classifiers: 4,
-    rules: 8,
-    per_group: 8,
-    last_priority: 15,
-    selectors: 3,
-};
 
 const CREATE: u8 = 10;
 
@@ -70,7 +61,8 @@ fn sent(
     Ok(reply)
 }
 
-/// How many of the commands, each an opcode and data, are answered one after another by the reply that stands with them.
+/// How many of the commands, each an opcode and data, are answered one after another by the reply that stands with
+/// them.
 fn answered(
     device: &mut Device,
     alloc: Global,

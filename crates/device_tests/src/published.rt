@@ -3,23 +3,13 @@
 ghost use Rattle.std.specs.Prelude.{◌≡◌, false, IfOk};
 ghost use Rattle.ff_headers.specs.Changes.{is_close};
 
-use ff_headers::{
-    Action, Change, Headers, Key, Kind, Limits, RuleAction, RuleObj, Selector, Selectors,
-};
+use crate::limits::LIMITS;
+use ff_headers::{Action, Change, Headers, Key, Kind, RuleAction, RuleObj, Selector, Selectors};
 use snapshots::{AdminEnd, Closed, HeldDoor, PairDoor, Seen, Told, Worker, open};
 use std::alloc::{AllocError, Global};
 use std::process::Abort;
 use std::sync::Wait;
 use std::test::Fail;
-
-const LIMITS: Limits = Limits {
-    groups: 2,
-    classifiers: 4,
-    rules: 8,
-    per_group: 8,
-    last_priority: 15,
-    selectors: 3,
-};
 
 /// A frame of type 0x0800.
 const FRAME: [u8; 14] = [255, 255, 255, 255, 255, 255, 2, 0, 0, 0, 0, 1, 8, 0];

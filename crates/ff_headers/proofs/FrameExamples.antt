@@ -25,8 +25,8 @@ tcp : List ℕ
 tcp = 0x30 ∷ 0x39 ∷ 0 ∷ 80 ∷ replicate 16 0
 
 -- which kinds of header a frame has: Ethernet, IPv4, IPv6, TCP, UDP
-held : List ℕ → List Bool
-held frame = map (λ kind. is_some (header_at (headers_of frame) kind)) (Eth ∷ Ipv4 ∷ Ipv6 ∷ Tcp ∷ Udp ∷ [])
+headers_had : List ℕ → List Bool
+headers_had frame = map (λ kind. is_some (header_at (headers_of frame) kind)) (Eth ∷ Ipv4 ∷ Ipv6 ∷ Tcp ∷ Udp ∷ [])
 
 over_ipv4 : ℕ → ℕ → ℕ → ℕ → List ℕ → List ℕ
 over_ipv4 first high low protocol rest = ethernet 8 0 ++ ipv4 first high low protocol ++ rest
@@ -51,35 +51,35 @@ udp_over_ipv6 = refl
 
 -- ---- which are held; of several frames each misses one thing
 
-ethernet_alone : map held (ethernet 8 0 ∷ ethernet 8 6 ∷ take 13 (ethernet 8 0) ∷ []) ≡ (true ∷ replicate 4 false) ∷ (true ∷ replicate 4 false) ∷ replicate 5 false ∷ []
-unfolding held headers_of has_ipv4 names_ip carries ip_end eth_field ip_field ethernet
+ethernet_alone : map headers_had (ethernet 8 0 ∷ ethernet 8 6 ∷ take 13 (ethernet 8 0) ∷ []) ≡ (true ∷ replicate 4 false) ∷ (true ∷ replicate 4 false) ∷ replicate 5 false ∷ []
+unfolding headers_had headers_of has_ipv4 names_ip carries ip_end eth_field ip_field ethernet
 ethernet_alone = refl
 
 -- another type, 33 bytes, another version, a length of four words, and options that are cut
-no_ipv4 : map held ((ethernet 8 1 ++ ipv4 0x45 0 0 6 ++ tcp) ∷ take 33 (over_ipv4 0x45 0 0 6 tcp) ∷ over_ipv4 0x55 0 0 6 tcp ∷ over_ipv4 0x44 0 0 6 tcp ∷ take 37 (over_ipv4 0x46 0 0 6 tcp) ∷ [])
+no_ipv4 : map headers_had ((ethernet 8 1 ++ ipv4 0x45 0 0 6 ++ tcp) ∷ take 33 (over_ipv4 0x45 0 0 6 tcp) ∷ over_ipv4 0x55 0 0 6 tcp ∷ over_ipv4 0x44 0 0 6 tcp ∷ take 37 (over_ipv4 0x46 0 0 6 tcp) ∷ [])
     ≡ replicate 5 (true ∷ replicate 4 false)
-unfolding held headers_of has_ipv4 names_ip carries ip_end eth_field ip_field over_ipv4 ethernet ipv4 tcp
+unfolding headers_had headers_of has_ipv4 names_ip carries ip_end eth_field ip_field over_ipv4 ethernet ipv4 tcp
 no_ipv4 = refl
 
 -- 53 bytes, another protocol, and a later fragment
-ipv4_alone : map held (take 53 (over_ipv4 0x45 0 0 6 tcp) ∷ over_ipv4 0x45 0 0 1 tcp ∷ over_ipv4 0x45 0 1 6 tcp ∷ over_ipv4 0x45 0x10 0 6 tcp ∷ [])
+ipv4_alone : map headers_had (take 53 (over_ipv4 0x45 0 0 6 tcp) ∷ over_ipv4 0x45 0 0 1 tcp ∷ over_ipv4 0x45 0 1 6 tcp ∷ over_ipv4 0x45 0x10 0 6 tcp ∷ [])
     ≡ replicate 4 (true ∷ true ∷ replicate 3 false)
-unfolding held headers_of has_ipv4 names_ip carries ip_end eth_field ip_field over_ipv4 ethernet ipv4 tcp
+unfolding headers_had headers_of has_ipv4 names_ip carries ip_end eth_field ip_field over_ipv4 ethernet ipv4 tcp
 ipv4_alone = refl
 
 -- the first fragment of several has ports; UDP's header has 8 bytes
-ipv4_with_ports : map held (over_ipv4 0x45 0x20 0 6 tcp ∷ take 42 (over_ipv4 0x45 0 0 17 tcp) ∷ take 41 (over_ipv4 0x45 0 0 17 tcp) ∷ [])
+ipv4_with_ports : map headers_had (over_ipv4 0x45 0x20 0 6 tcp ∷ take 42 (over_ipv4 0x45 0 0 17 tcp) ∷ take 41 (over_ipv4 0x45 0 0 17 tcp) ∷ [])
     ≡ (true ∷ true ∷ false ∷ true ∷ false ∷ []) ∷ (true ∷ true ∷ false ∷ false ∷ true ∷ []) ∷ (true ∷ true ∷ replicate 3 false) ∷ []
-unfolding held headers_of has_ipv4 names_ip carries ip_end eth_field ip_field over_ipv4 ethernet ipv4 tcp
+unfolding headers_had headers_of has_ipv4 names_ip carries ip_end eth_field ip_field over_ipv4 ethernet ipv4 tcp
 ipv4_with_ports = refl
 
 -- another type, 53 bytes, and another version
-no_ipv6 : map held ((ethernet 0x86 0xdc ++ ipv6 0x60 6 ++ tcp) ∷ take 53 (over_ipv6 0x60 6 tcp) ∷ over_ipv6 0x40 6 tcp ∷ [])
+no_ipv6 : map headers_had ((ethernet 0x86 0xdc ++ ipv6 0x60 6 ++ tcp) ∷ take 53 (over_ipv6 0x60 6 tcp) ∷ over_ipv6 0x40 6 tcp ∷ [])
     ≡ replicate 3 (true ∷ replicate 4 false)
-unfolding held headers_of has_ipv4 names_ip carries ip_end eth_field ip_field over_ipv6 ethernet ipv6 tcp
+unfolding headers_had headers_of has_ipv4 names_ip carries ip_end eth_field ip_field over_ipv6 ethernet ipv6 tcp
 no_ipv6 = refl
 
 -- 73 bytes, and a further header of IPv6
-ipv6_alone : map held (take 73 (over_ipv6 0x60 6 tcp) ∷ over_ipv6 0x60 44 tcp ∷ []) ≡ replicate 2 (true ∷ false ∷ true ∷ false ∷ false ∷ [])
-unfolding held headers_of has_ipv4 names_ip carries ip_end eth_field ip_field over_ipv6 ethernet ipv6 tcp
+ipv6_alone : map headers_had (take 73 (over_ipv6 0x60 6 tcp) ∷ over_ipv6 0x60 44 tcp ∷ []) ≡ replicate 2 (true ∷ false ∷ true ∷ false ∷ false ∷ [])
+unfolding headers_had headers_of has_ipv4 names_ip carries ip_end eth_field ip_field over_ipv6 ethernet ipv6 tcp
 ipv6_alone = refl

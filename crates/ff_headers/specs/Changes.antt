@@ -42,7 +42,8 @@ names_classifier objects id = list_any (λ e. e.1.classifier == id) objects.rule
 abbrev pub is_backed : FlowObjects → RuleParts → Bool
 is_backed objects rule =
     is_some (object_under objects.groups rule.group)
-    && option_map_or (λ selectors. length rule.key == key_size selectors) (object_under objects.classifiers rule.classifier) false
+    && option_map_or (λ selectors. length rule.key == key_size selectors)
+    (object_under objects.classifiers rule.classifier) false
 
 -- whether a change is sound in the objects
 unfoldable pub is_sound : Limits → FlowObjects → Change → Bool

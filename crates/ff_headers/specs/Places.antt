@@ -38,7 +38,8 @@ is_before objects a b = is_lt (place_cmp (place_of objects a) (place_of objects 
 -- whether the rule's classifier is held and, with the rule's key, matches the headers
 unfoldable pub rule_matches : FlowObjects → HeaderBytes → RuleParts → Bool
 rule_matches objects headers rule =
-    option_map_or (λ selectors. matches selectors rule.key headers) (object_under objects.classifiers rule.classifier) false
+    option_map_or (λ selectors. matches selectors rule.key headers)
+    (object_under objects.classifiers rule.classifier) false
 
 -- the rule is held under the id, and matches the headers
 pub record IsMatching (objects : FlowObjects) (headers : HeaderBytes) (entry : RuleEntry) : Type 0 where

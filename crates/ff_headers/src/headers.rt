@@ -57,17 +57,17 @@ impl Headers {
         ensures size { IfSome result (λ header. length header.now ≡ kind_size kind) }
     {
         match kind {
-            Kind::Eth => held(&self.eth),
-            Kind::Ipv4 => held(&self.ipv4),
-            Kind::Ipv6 => held(&self.ipv6),
-            Kind::Tcp => held(&self.tcp),
-            Kind::Udp => held(&self.udp),
+            Kind::Eth => header_bytes(&self.eth),
+            Kind::Ipv4 => header_bytes(&self.ipv4),
+            Kind::Ipv6 => header_bytes(&self.ipv6),
+            Kind::Tcp => header_bytes(&self.tcp),
+            Kind::Udp => header_bytes(&self.udp),
         }
     }
 }
 
-/// The bytes of a header, where it is held.
-fn held<const N: usize>(header: &Option<[u8; N]>) -> Option<&[u8]>
+/// The bytes of a header, where the frame has it.
+fn header_bytes<const N: usize>(header: &Option<[u8; N]>) -> Option<&[u8]>
     ensures value { option_copied result ≡ header.now }
     ensures size { IfSome result (λ bytes. length bytes.now ≡ N) }
 {

@@ -7,8 +7,8 @@
 //!
 //! It promises that `Headers::parse` holds the Ethernet, IPv4, IPv6, TCP and UDP headers that a frame has, that
 //! `matches` says whether each selected header equals the key's part under the mask, and that `Selectors::of` accepts
-//! exactly the lists of good shape. It also defines what a list of changes to groups, classifiers and rules leaves, and which
-//! rule is the first that matches; the device and the search cite these definitions.
+//! exactly the lists of good shape. It also defines what a list of changes to groups, classifiers and rules leaves, and
+//! which rule is the first that matches; the device and the search cite these definitions.
 //!
 //! `allowed` says which masks a selector of a device's capability allows: each header is cut into fields, and a field
 //! is a number. `Steps` counts comparisons of keys in what contracts see, and takes no bytes.

@@ -1,5 +1,4 @@
-ghost use Rattle.std.specs.Prelude.{◌≡◌, ℕ, ◌<◌, ◌↔◌, length, slice_index, bit_and, IsTrue};
-ghost use Rattle.ff_headers.specs.SelectorParts.{IsWhole};
+ghost use Rattle.std.specs.Prelude.{◌≡◌, ◌↔◌, length, IsTrue};
 ghost use Rattle.ff_headers.specs.Kinds.{kind_size};
 ghost use Rattle.ff_headers.specs.Matching.{SameUnder, PartFits, fits, matches, Matches, key_size};
 

@@ -37,12 +37,12 @@ impl Objects {
         ensures unnamed { IfOk result (λ change. DropsUnnamed self.now.objects change) }
         ensures never_zero { IfErr result (λ verdict. verdict.status ≢ 0) }
     {
-        change_of(&self.store, command, device, driver)
+        checked_change(&self.store, command, device, driver)
     }
 }
 
 /// What `check` answers.
-fn change_of(
+fn checked_change(
     store: &Store,
     command: &Command,
     device: &DeviceCaps,

@@ -7,7 +7,7 @@ ghost use Rattle.cap_table.specs.Caps.{CapsParts, DriverParts};
 ghost use Rattle.cap_table.specs.Answers.{drop_of};
 ghost use Rattle.cap_table.specs.Verdicts.{first_verdict, command_rows};
 
-use crate::held::{check_held, check_unnamed};
+use crate::target::{check_held, check_unnamed};
 use admin_wire::{
     ObjHead, VIRTIO_NET_RESOURCE_OBJ_FF_CLASSIFIER, VIRTIO_NET_RESOURCE_OBJ_FF_GROUP,
     VIRTIO_NET_RESOURCE_OBJ_FF_RULE,

@@ -9,8 +9,8 @@
 //! one more change. All room is taken by [`Objects::new`]; no later call takes memory. Whether an id is held, and
 //! whether a rule names it, is asked of the store's maps and counts, so that no call walks the rules.
 //!
-//! The modules, lowest first: `objects` (what is held), `rule` and `content` (what a create or a modify gives), `held`
-//! (what a modify and a destroy ask), `create`, `modify`, `destroy`, `check` (all three), `look` (a query).
+//! The modules, lowest first: `objects` (what is held), `rule` and `content` (what a create or a modify gives),
+//! `target` (what a modify and a destroy ask), `create`, `modify`, `destroy`, `check` (all three), `look` (a query).
 //!
 //! The definitions are those of the crates below: the rows in cap_table's `Verdicts`, what commands change and are
 //! answered in its `Answers`, objects and changes in ff_headers, and what contracts see of the objects in ff_store's
@@ -21,11 +21,11 @@ mod check;
 mod content;
 mod create;
 mod destroy;
-mod held;
 mod look;
 mod modify;
 mod objects;
 mod rule;
+mod target;
 
 pub use cap_table::Verdict;
 pub use objects::Objects;

@@ -7,7 +7,7 @@ ghost use Rattle.cap_table.specs.Answers.{put_of};
 ghost use Rattle.cap_table.specs.Verdicts.{first_verdict, command_rows};
 
 use crate::content::{classifier_put, group_put, rule_put};
-use crate::held::{check_held, check_unnamed};
+use crate::target::{check_held, check_unnamed};
 use admin_wire::{ObjData, ObjHead};
 use cap_table::{DeviceCaps, DriverCaps, Verdict};
 use ff_headers::Change;

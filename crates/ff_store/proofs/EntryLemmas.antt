@@ -8,7 +8,6 @@ use Rattle.std.specs.Map.{keys_of, values_of}
 use Rattle.std.specs.Ordering.{nat_cmp}
 use Rattle.std.specs.BTreeMap.{is_at}
 use Rattle.std.specs.Cmp.{nat_cmp_total}
-use Rattle.std.specs.declared.cmp.Ordering.TheVariants.{Less}
 use Rattle.std.proofs.lemmas.Bool.Decides.{nat_tests}
 use Rattle.std.proofs.lemmas.List.Sums.{sum_by-cons}
 use Rattle.std.proofs.lemmas.Map.{lookup-none}
@@ -18,7 +17,7 @@ use Rattle.std.proofs.lemmas.Cmp.{eq_by_cmp_equiv}
 use Rattle.ff_headers.specs.Objects.{object_under, IsById}
 use Rattle.ff_headers.specs.Changes.{put, without}
 use Rattle.ff_headers.proofs.EntryLemmas.{less_from, object_under-cons, put-cons}
-use Rattle.ff_store.specs.Counts.{once}
+use Rattle.ff_store.specs.Counts.{one_if}
 
 same_both_ways : (a b : ℕ) → eqb a b ≡ eqb b a
 same_both_ways a b = grind (arith, nat_tests)
@@ -64,26 +63,26 @@ module _ {X : Type 0} where
     by_values [] = refl
     by_values (e ∷ es) = counted-cons e es ∙ (ap (λ n. cond (p e.1) 1 0 + n) (by_values es) ∙ sym (sum_by-cons (λ x. cond (p x) 1 0) e.1 (values_of es)))
 
-    once_is : (o : Option X) → once p o ≡ unwrap_or (option_map (λ x. cond (p x) 1 0) o) 0
-    once_is None = refl
-    once_is (Some x) = refl
+    one_if_is : (o : Option X) → one_if p o ≡ unwrap_or (option_map (λ x. cond (p x) 1 0) o) 0
+    one_if_is None = refl
+    one_if_is (Some x) = refl
 
     -- a put counts what is put, and no longer what stood there
-    pub count-put : (es : List (ℕ × X)) (id : ℕ) (x : X) → IsById es → counted (put es id x) + once p (object_under es id) ≡ counted es + once p (Some x)
+    pub count-put : (es : List (ℕ × X)) (id : ℕ) (x : X) → IsById es → counted (put es id x) + one_if p (object_under es id) ≡ counted es + one_if p (Some x)
     count-put es id x rising =
         let sums = sum_by-insert_entry (λ x. cond (p x) 1 0) nat_cmp_total es id x rising in
         let after = by_values (put es id x) in
         let before = by_values es in
-        let was = once_is (object_under es id) in
+        let was = one_if_is (object_under es id) in
         cc
 
     -- a removal counts no longer what stood there
-    pub count-without : (es : List (ℕ × X)) (id : ℕ) → counted (without es id) + once p (object_under es id) ≡ counted es
+    pub count-without : (es : List (ℕ × X)) (id : ℕ) → counted (without es id) + one_if p (object_under es id) ≡ counted es
     count-without es id =
         let sums = sum_by-remove_entry (λ x. cond (p x) 1 0) (is_at (nat_cmp id)) es in
         let after = by_values (without es id) in
         let before = by_values es in
-        let was = once_is (object_under es id) in
+        let was = one_if_is (object_under es id) in
         cc
 
     -- some entry passes where one is counted
@@ -111,25 +110,25 @@ module _ {X : Type 0} where
       by_test false false same none later = ap (λ n. cond (p e.1) 1 0 + n) (later none)
 
     -- those of another id, and the one of the id
-    count-others : (es : List (ℕ × X)) (id : ℕ) → IsById es → others id es + once p (object_under es id) ≡ counted es
+    count-others : (es : List (ℕ × X)) (id : ℕ) → IsById es → others id es + one_if p (object_under es id) ≡ counted es
     count-others [] id rising = refl
-    count-others (e ∷ es) id rising = ap (λ n. n + once p (object_under (e ∷ es) id)) (others-cons id e es) ∙ (by_place (eqb id e.0) (eqb e.0 id) refl (same_both_ways id e.0) (object_under-cons e.0 e.1 es id) (count-others es id (sorted_tail nat_cmp e.0 (keys_of es) rising)) ∙ sym (counted-cons e es)) where
-      by_place : (a b : Bool) → eqb id e.0 ≡ a → a ≡ b → object_under (e ∷ es) id ≡ cond a (Some e.1) (object_under es id) → others id es + once p (object_under es id) ≡ counted es → cond (not b && p e.1) 1 0 + others id es + once p (object_under (e ∷ es) id) ≡ cond (p e.1) 1 0 + counted es
+    count-others (e ∷ es) id rising = ap (λ n. n + one_if p (object_under (e ∷ es) id)) (others-cons id e es) ∙ (by_place (eqb id e.0) (eqb e.0 id) refl (same_both_ways id e.0) (object_under-cons e.0 e.1 es id) (count-others es id (sorted_tail nat_cmp e.0 (keys_of es) rising)) ∙ sym (counted-cons e es)) where
+      by_place : (a b : Bool) → eqb id e.0 ≡ a → a ≡ b → object_under (e ∷ es) id ≡ cond a (Some e.1) (object_under es id) → others id es + one_if p (object_under es id) ≡ counted es → cond (not b && p e.1) 1 0 + others id es + one_if p (object_under (e ∷ es) id) ≡ cond (p e.1) 1 0 + counted es
       by_place true true is same at later =
           let id_is : id ≡ e.0 = grind (arith, nat_tests) in
           let absent : object_under es id ≡ None = ap (object_under es) id_is ∙ past_head e es rising in
           let rest = all_others es id absent in
-          let here : once p (object_under (e ∷ es) id) ≡ cond (p e.1) 1 0 = ap (once p) at in
+          let here : one_if p (object_under (e ∷ es) id) ≡ cond (p e.1) 1 0 = ap (one_if p) at in
           omega arith
       by_place true false is same at later = absurd cc
       by_place false true is same at later = absurd cc
       by_place false false is same at later =
-          let here : once p (object_under (e ∷ es) id) ≡ once p (object_under es id) = ap (once p) at in
+          let here : one_if p (object_under (e ∷ es) id) ≡ one_if p (object_under es id) = ap (one_if p) at in
           omega arith
 
-    once_byte : (o : Option X) → once p o ≡ from_bool (option_map_or p o false)
-    once_byte None = refl
-    once_byte (Some x) = by_test (p x) where
+    one_if_byte : (o : Option X) → one_if p o ≡ from_bool (option_map_or p o false)
+    one_if_byte None = refl
+    one_if_byte (Some x) = by_test (p x) where
       by_test : (b : Bool) → cond b 1 0 ≡ from_bool b
       by_test true = refl
       by_test false = refl
@@ -137,5 +136,5 @@ module _ {X : Type 0} where
     pub others_left : (es : List (ℕ × X)) (id : ℕ) → IsById es → (all own : ℕ) (is_own : Bool) → all ≡ counted es → own ≡ from_bool is_own → is_own ≡ option_map_or p (object_under es id) false → (own ≤ all) × (all - own ≡ others id es)
     others_left es id rising all own is_own all_is own_is is =
         let parts = count-others es id rising in
-        let one : own ≡ once p (object_under es id) = own_is ∙ (ap from_bool is ∙ sym (once_byte (object_under es id))) in
+        let one : own ≡ one_if p (object_under es id) = own_is ∙ (ap from_bool is ∙ sym (one_if_byte (object_under es id))) in
         (omega arith, omega arith)

@@ -6,7 +6,7 @@ use Rattle.std.proofs.lemmas.List.Sums.{count_by-le-length}
 use Rattle.ff_headers.specs.RuleParts.{RuleParts}
 use Rattle.ff_headers.specs.Objects.{object_under, IsById}
 use Rattle.ff_headers.specs.Changes.{put, without}
-use Rattle.ff_store.specs.Counts.{once}
+use Rattle.ff_store.specs.Counts.{one_if}
 use Rattle.ff_store.proofs.EntryLemmas.{count-put, count-without}
 
 one_for_itself : (q : ℕ) → cond {A = ℕ} (eqb q q) 1 0 ≡ 1
@@ -22,21 +22,21 @@ module _ (name : RuleParts → ℕ) where
   naming rules q = count_by (λ entry. eqb (name entry.1) q) rules
 
   module _ (rules : List (ℕ × RuleParts)) (id : ℕ) (stood : Option RuleParts) (is : stood ≡ object_under rules id) (before : ℕ → ℕ) (was : (q : ℕ) → before q ≡ naming rules q) where
-    once_is : (q : ℕ) → once (names q) stood ≡ once (names q) (object_under rules id)
-    once_is q = ap (once (names q)) is
+    one_if_is : (q : ℕ) → one_if (names q) stood ≡ one_if (names q) (object_under rules id)
+    one_if_is q = ap (one_if (names q)) is
 
     -- a rule that is held is counted
-    pub once_le : (q : ℕ) → once (names q) stood ≤ before q
-    once_le q = omega (arith, once_is q, count-without (names q) rules id, was q)
+    pub one_if_le : (q : ℕ) → one_if (names q) stood ≤ before q
+    one_if_le q = omega (arith, one_if_is q, count-without (names q) rules id, was q)
 
-    module _ (uncounted : ℕ → ℕ) (less : (q : ℕ) → uncounted q + once (names q) stood ≡ before q) where
+    module _ (uncounted : ℕ → ℕ) (less : (q : ℕ) → uncounted q + one_if (names q) stood ≡ before q) where
       -- where it is dropped, the others are
       pub drop_counts : (left : List (ℕ × RuleParts)) → left ≡ without rules id → (q : ℕ) → uncounted q ≡ naming left q
-      drop_counts left made q = rw made (omega (arith, once_is q, count-without (names q) rules id, was q, less q))
+      drop_counts left made q = rw made (omega (arith, one_if_is q, count-without (names q) rules id, was q, less q))
 
       module _ (rising : IsById rules) (rule : RuleParts) where
         replaced : (q : ℕ) → uncounted q + cond (eqb (name rule) q) 1 0 ≡ naming (put rules id rule) q
-        replaced q = omega (arith, once_is q, count-put (names q) rules id rule rising, was q, less q)
+        replaced q = omega (arith, one_if_is q, count-put (names q) rules id rule rising, was q, less q)
 
         -- where another is put, that one is too
         pub put_counts : (held_now : List (ℕ × RuleParts)) → held_now ≡ put rules id rule → (named : ℕ) → named ≡ name rule → (after : ℕ → ℕ) → ((q : ℕ) → after q ≡ uncounted q + cond (eqb named q) 1 0) → (q : ℕ) → after q ≡ naming held_now q

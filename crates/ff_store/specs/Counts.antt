@@ -6,8 +6,8 @@ use Rattle.res_objects.specs.BoundedMap.{BoundedMap}
 use Rattle.ff_store.specs.declared.counted.Counted.{Counted}
 
 -- how many objects pass the test, where there is one or none
-abbrev pub once : {T : Type 0} → (T → Bool) → Option T → ℕ
-once test object = option_map_or (λ x. if test x then 1 else 0) object 0
+abbrev pub one_if : {T : Type 0} → (T → Bool) → Option T → ℕ
+one_if test object = option_map_or (λ x. if test x then 1 else 0) object 0
 
 module _ {T : Type 0} where
   -- the objects alone, by rising id

@@ -4,7 +4,7 @@ ghost use Rattle.std.specs.Prelude.{◌≡◌, ℕ, ◌≤◌, ◌==◌, true};
 ghost use Rattle.ff_headers.specs.Changes.{is_sound};
 ghost use Rattle.ff_headers.specs.declared.change.Change.TheVariants as changes;
 ghost use Rattle.ff_store.specs.LimitedObjects.{with_change};
-ghost use Rattle.ff_store.specs.Counts.{count_of, once, IsUncounted};
+ghost use Rattle.ff_store.specs.Counts.{count_of, one_if, IsUncounted};
 
 use crate::counted::{Counted, lower, put, put_object, raise, remove, remove_object};
 use crate::store::Store;
@@ -91,10 +91,10 @@ fn uncount(
     classifiers: &mut ObjMap<Counted<Selectors>>,
     rule: Option<RuleObj>,
 )
-    requires groups { (q : ℕ) → once (λ r. r.group == q) rule ≤ count_of groups.old.entries q }
-    requires classifiers { (q : ℕ) → once (λ r. r.classifier == q) rule ≤ count_of classifiers.old.entries q }
-    ensures groups { IsUncounted groups.old groups.new (λ q. once (λ r. r.group == q) rule) }
-    ensures classifiers { IsUncounted classifiers.old classifiers.new (λ q. once (λ r. r.classifier == q) rule) }
+    requires groups { (q : ℕ) → one_if (λ r. r.group == q) rule ≤ count_of groups.old.entries q }
+    requires classifiers { (q : ℕ) → one_if (λ r. r.classifier == q) rule ≤ count_of classifiers.old.entries q }
+    ensures groups { IsUncounted groups.old groups.new (λ q. one_if (λ r. r.group == q) rule) }
+    ensures classifiers { IsUncounted classifiers.old classifiers.new (λ q. one_if (λ r. r.classifier == q) rule) }
 {
     if let Some(rule) = rule {
         lower(groups, rule.group());

@@ -151,7 +151,8 @@ impl Store {
 
     /// Whether the rule under the id names the group.
     fn is_in_group(&self, id: u32, group: u32) -> bool
-        ensures value { result ≡ option_map_or (λ rule. rule.group == group) (object_under self.now.objects.rules id) false }
+        ensures value { result
+            ≡ option_map_or (λ rule. rule.group == group) (object_under self.now.objects.rules id) false }
         ensures rising { IsById self.now.objects.rules }
     {
         match self.rules.query(id) {

@@ -5,7 +5,6 @@ use Rattle.std.specs.List.{list_any}
 use Rattle.std.specs.Option.{option_map_or}
 use Rattle.std.specs.Map.{keys_of}
 use Rattle.std.proofs.lemmas.Bool.{cases_lt}
-use Rattle.std.proofs.lemmas.Bool.Decides.{nat_tests}
 use Rattle.std.proofs.lemmas.List.{get_or_default}
 use Rattle.std.proofs.lemmas.List.Elements.{All-head, All-tail}
 use Rattle.std.proofs.lemmas.List.Folds.{Any-from_list_any}
@@ -21,14 +20,12 @@ use Rattle.matcher.specs.Rows.{Kept, kept_under, selectors_at, id_of, AreApart, 
 use Rattle.matcher.specs.Searches.{HasRow, AreOfNumbers, AreAllCarried, Differ, IsShapeCost, IsTotalCost}
 use Rattle.matcher.specs.Comparisons.{IsUsed, HasHeaders, IsBounded}
 use Rattle.matcher.specs.declared.rows.Row.{Row}
-use Rattle.matcher.proofs.RoomLemmas.{differ_more, rows_within, key_held}
+use Rattle.matcher.proofs.RoomLemmas.{differ_more, number_is, rows_within, key_held}
 use Rattle.matcher.proofs.Pigeonhole.{no_longer}
 use Rattle.matcher.proofs.ShapeLemmas.{unused}
-use Rattle.matcher.proofs.FirstLemmas.{kept_rule, rule_kept, some_same}
+use Rattle.matcher.proofs.RowLemmas.{some_same}
+use Rattle.matcher.proofs.FirstLemmas.{kept_rule, rule_kept}
 use Rattle.matcher.proofs.IndexLemmas.{kept_are_held}
-
-number_is : (m n : ℕ) → eqb m n ≡ true → m ≡ n
-number_is m n h = grind (arith, nat_tests)
 
 some_row : (rows : List Row) (number : ℕ) → list_any (λ (row : Row). eqb row.shape number) rows ≡ true → HasRow rows number
 some_row rows number h =

@@ -20,14 +20,10 @@ use Rattle.matcher.specs.Searches.{HasKey, FitsRow, FitsBelow, IsFirstAmong}
 use Rattle.std.proofs.lemmas.Bool.{cases_lt}
 use Rattle.matcher.specs.declared.scan.Candidate.{Candidate}
 use Rattle.matcher.specs.declared.rows.Row.{Row}
+use Rattle.matcher.proofs.RowLemmas.{less_from_test, option_parts, some_same}
 use Rattle.matcher.proofs.MatchKeys.{HaveSizes, key_from_match, match_from_key, frame_key_by_shape}
 
 -- ---- the order of places
-
-lt_is : (o : Ordering) → is_lt o ≡ true → o ≡ Less
-lt_is Less h = refl
-lt_is Equal h = absurd cc
-lt_is Greater h = absurd cc
 
 -- what comes after a second place that isn't before the first
 not_before_later : (x a b : Place) → is_lt (place_cmp x a) ≡ false → is_lt (place_cmp b a) ≡ true → is_lt (place_cmp x b) ≡ false
@@ -37,7 +33,7 @@ not_before_later x a b stays less = by (is_lt (place_cmp x b)) refl where
 
   by : (t : Bool) → is_lt (place_cmp x b) ≡ t → is_lt (place_cmp x b) ≡ false
   by false e = e
-  by true e = absurd (two (is_lt (place_cmp x a)) (ap is_lt (place_total.trans x b a (lt_is _ e) (lt_is _ less))) stays)
+  by true e = absurd (two (is_lt (place_cmp x a)) (ap is_lt (place_total.trans x b a (less_from_test _ e) (less_from_test _ less))) stays)
 
 not_before_first : (x a b : Place) → is_lt (place_cmp x b) ≡ false → is_lt (place_cmp b a) ≡ false → is_lt (place_cmp x a) ≡ false
 not_before_first x a b stays last = by (place_cmp b a) refl last where
@@ -46,7 +42,7 @@ not_before_first x a b stays last = by (place_cmp b a) refl last where
 
   under : place_cmp a b ≡ Less → (t : Bool) → is_lt (place_cmp x a) ≡ t → is_lt (place_cmp x a) ≡ false
   under less false e = e
-  under less true e = absurd (two (is_lt (place_cmp x b)) (ap is_lt (place_total.trans x a b (lt_is _ e) less)) stays)
+  under less true e = absurd (two (is_lt (place_cmp x b)) (ap is_lt (place_total.trans x a b (less_from_test _ e) less)) stays)
 
   by : (o : Ordering) → place_cmp b a ≡ o → is_lt o ≡ false → is_lt (place_cmp x a) ≡ false
   by Less e h = absurd cc
@@ -107,10 +103,6 @@ same_kind rows P Q to back (Some x) is =
 
 -- ---- rows as rules
 
-option_parts : {A B : Type 0} (f : A → B) (o : Option A) (b : B) → option_map f o ≡ Some b → (a : A) × (o ≡ Some a) × (f a ≡ b)
-option_parts f None b is = absurd cc
-option_parts f (Some a) b is = (a, refl, cc)
-
 -- what is kept under an id is of a held rule with held selectors
 pub record KeptRule (objects : FlowObjects) (id : ℕ) (one : Kept) : Type 0 where
   pub rule : RuleParts
@@ -168,12 +160,6 @@ below_kept shapes headers n row (lt, f) = (omega arith, f)
 
 pub below_last : (shapes : List (List SelectorParts)) (headers : HeaderBytes) (n : ℕ) (row : Row) → (row.shape ≡ n) × FitsRow shapes headers row → FitsBelow (n + 1) shapes headers row
 below_last shapes headers n row (e, f) = (omega arith, f)
-
-pub some_same : (o : Option Kept) (a b : Kept) → o ≡ Some a → o ≡ Some b → a ≡ b
-some_same o a b h k = cc
-
-some_same_rule : (o : Option RuleParts) (a b : RuleParts) → o ≡ Some a → o ≡ Some b → a ≡ b
-some_same_rule o a b h k = cc
 
 same_entry : (a b : RuleEntry) → a.0 ≡ b.0 → a.1 ≡ b.1 → a ≡ b
 same_entry (i, x) (j, y) e f = cc
@@ -263,5 +249,5 @@ module _ (limits : Limits) (objects : FlowObjects) (well : IsWellFormed limits o
             sym (ap (λ (x : Candidate). is_lt (place_cmp x.place (place_of objects entry))) row.3) ∙ sym (ap (λ (x : Candidate). is_lt (place_cmp row.0.candidate.place x.place)) at) ∙ h) in
             let a : place_of objects best ≡ place_of objects entry = neither_before (place_of objects best) (place_of objects entry) (mine best first.matching) (not_is_true _ (first.least entry m)) in
             let ids : best.0 ≡ entry.0 = ap (λ (p : Place). p.2) a in
-            let rules : best.1 ≡ entry.1 = some_same_rule (object_under objects.rules entry.0) best.1 entry.1 (ap (object_under objects.rules) (sym ids) ∙ first.matching.is_held) m.is_held in
+            let rules : best.1 ≡ entry.1 = some_same (object_under objects.rules entry.0) best.1 entry.1 (ap (object_under objects.rules) (sym ids) ∙ first.matching.is_held) m.is_held in
             ap Some (at ∙ ap (candidate_of objects) (sym (same_entry best entry ids rules)))

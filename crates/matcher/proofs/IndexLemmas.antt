@@ -25,7 +25,7 @@ use Rattle.matcher.specs.Indexes.{IsIndex}
 use Rattle.matcher.specs.declared.rows.Row.{Row}
 use Rattle.matcher.specs.declared.index.RowIndex.{RowIndex}
 use Rattle.ff_headers.proofs.ChangeLemmas.{backed_from_test}
-use Rattle.matcher.proofs.RowLemmas.{same_kept}
+use Rattle.matcher.proofs.RowLemmas.{same_kept, option_parts}
 use Rattle.matcher.proofs.RoomLemmas.{rows_room, shapes_room, key_held, held_once_put, held_that_is_put, put_fits}
 
 pub none_kept : AreRows (kept_under no_objects) [] []
@@ -80,10 +80,6 @@ module _ (limits : Limits) (objects : FlowObjects) (well : IsWellFormed limits o
       omega arith
 
 -- ---- what is kept of held rules is held
-
-option_parts : {A B : Type 0} (f : A → B) (o : Option A) (b : B) → option_map f o ≡ Some b → (a : A) × (o ≡ Some a) × (f a ≡ b)
-option_parts f None b is = absurd cc
-option_parts f (Some a) b is = (a, refl, cc)
 
 pub held_by : (objects : FlowObjects) (priority : RuleParts → ℕ) (id : ℕ) (one : Kept) → option_map_or (λ (rule : RuleParts). kept_by objects (priority rule) (id, rule)) (object_under objects.rules id) None ≡ Some one → IsSome (object_under objects.rules id) × Contains (held_shapes objects) one.shape
 held_by objects priority id one is = by (object_under objects.rules id) is where

@@ -4,12 +4,9 @@ use Rattle.std.specs.List.{remove}
 use Rattle.std.proofs.lemmas.Bool.{cases_lt}
 use Rattle.std.proofs.lemmas.List.{get_or_default}
 use Rattle.std.proofs.lemmas.List.Edits.{length-remove, get_or-remove_below, get_or-remove_above}
+use Rattle.matcher.specs.Searches.{Differ}
 
 module _ {X : Type 0} where
-  -- nothing comes twice
-  abbrev pub Differ : List X → Type 0
-  Differ xs = (i j : ℕ) (d : X) → i < j → j < length xs → get_or xs i d ≢ get_or xs j d
-
   -- an element at another place is left
   pub left_over : (xs : List X) (p j : ℕ) (x : X) → p < length xs → j < length xs → j ≢ p → get_or xs j x ≡ x → Contains (remove xs p) x
   left_over xs p j x inside within off at =

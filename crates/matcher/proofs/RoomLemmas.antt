@@ -13,9 +13,10 @@ use Rattle.ff_headers.specs.Changes.{put, has_room}
 use Rattle.ff_headers.proofs.EntryLemmas.{entry_from_held, object_under-put, length-put_le, length-put_held}
 use Rattle.matcher.specs.Keys.{Shape, shape_of}
 use Rattle.matcher.specs.Rows.{Kept, id_of, selectors_at, IsNew, AreUsed, AreRows}
+use Rattle.matcher.specs.Searches.{Differ}
 use Rattle.matcher.specs.declared.rows.Row.{Row}
 use Rattle.matcher.proofs.RowLemmas.{ids_apart}
-use Rattle.matcher.proofs.Pigeonhole.{Differ, no_longer}
+use Rattle.matcher.proofs.Pigeonhole.{no_longer}
 
 -- the element at a place
 pub element : {X : Type 0} (xs : List X) (i : ℕ) → i < length xs → (x : X) × (get_or xs i x ≡ x)
@@ -35,7 +36,7 @@ each_more {X} x xs ys here rest y has = by has.0 has.1 has.2 where
   by zero lt at = let same : x ≡ y = at in let P : X → Type 0 = λ z. Contains ys z in subst P same here
   by (suc k) lt at = rest y (k, omega arith, at)
 
-number_is : (m n : ℕ) → eqb m n ≡ true → m ≡ n
+pub number_is : (m n : ℕ) → eqb m n ≡ true → m ≡ n
 number_is m n h = grind (arith, nat_tests)
 
 some_none : (o : Option Kept) (one : Kept) → o ≡ None → o ≡ Some one → ⊥

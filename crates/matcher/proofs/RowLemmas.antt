@@ -2,6 +2,7 @@
 use Rattle.std.proofs.Common.{◌≡◌, ◌≢◌, ℕ, ◌+◌, ◌-◌, ◌<◌, ◌≤◌, Bool, true, false, cond, eqb, List, length, get_or, Option, Some, None, Ordering, refl, sym, ap, ◌∙◌, ◌⊎◌, inl, inr, arith, Contains}
 use Rattle.std.proofs.lemmas.Bool.{cases_lt}
 use Rattle.std.specs.List.{insert, remove}
+use Rattle.std.specs.Option.{option_map}
 use Rattle.std.specs.List.Sorted.{IsPartitionedBy, IsPartitionPoint}
 use Rattle.std.specs.Ordering.{nat_cmp, ordering_then, ordering_reverse, is_lt}
 use Rattle.std.specs.declared.cmp.Ordering.TheVariants.{Less, Equal, Greater}
@@ -19,12 +20,18 @@ use Rattle.ff_headers.proofs.PlaceLemmas.{place_total}
 use Rattle.matcher.specs.Keys.{shape_of}
 use Rattle.matcher.specs.Rows.{Kept, with_kept, id_of, row_cmp, cmp_in_shape, stands_before, selectors_at, IsRow, AreRising, AreRows}
 use Rattle.matcher.specs.declared.rows.Row.{Row}
+use Rattle.matcher.proofs.Pigeonhole.{left_over}
 
 pub row_total : IsTotalOrder row_cmp
 row_total = then_total (λ (r : Row). r.shape) (λ (r : Row). r) nat_cmp_total (then_total (λ (r : Row). r.key.items) (λ (r : Row). r.candidate.place) nat_list_cmp_total place_total)
 
+-- what an optional object with a function applied comes from
+pub option_parts : {A B : Type 0} (f : A → B) (o : Option A) (b : B) → option_map f o ≡ Some b → (a : A) × (o ≡ Some a) × (f a ≡ b)
+option_parts f None b is = absurd cc
+option_parts f (Some a) b is = (a, refl, cc)
+
 -- what an order that is or isn't `Less` says
-less_from_test : (o : Ordering) → is_lt o ≡ true → o ≡ Less
+pub less_from_test : (o : Ordering) → is_lt o ≡ true → o ≡ Less
 less_from_test Less h = refl
 less_from_test Equal h = absurd cc
 less_from_test Greater h = absurd cc
@@ -70,7 +77,7 @@ same_cmp a b s k c = rw (s, k, c) (tied_itself row_total b)
 less_apart : (o : Ordering) → o ≡ Less → o ≡ Equal → ⊥
 less_apart o h k = cc
 
-some_same : (o : Option Kept) (a b : Kept) → o ≡ Some a → o ≡ Some b → a ≡ b
+pub some_same : {X : Type 0} (o : Option X) (a b : X) → o ≡ Some a → o ≡ Some b → a ≡ b
 some_same o a b h k = cc
 
 module _ (kept : ℕ → Option Kept) (shapes : List (List SelectorParts)) (rows : List Row) (was : AreRows kept shapes rows) where
@@ -115,16 +122,6 @@ module _ (kept : ℕ → Option Kept) (shapes : List (List SelectorParts)) (rows
           | inr ge ↦ (k + 1, omega arith, (λ e. omega arith), get_or-remove_above rows p d k ge inside)
         ]
 
-    to_removed : (j : ℕ) (row : Row) → j < length rows → j ≢ p → get_or rows j row ≡ row → Contains (remove rows p) row
-    to_removed j row within off at =
-        let long = length-remove rows p inside in
-        elim (cases_lt j p) [
-          | inl lt ↦ (j, omega arith, get_or-remove_below rows p row j lt inside ∙ at)
-          | inr ge ↦
-              let back : j ≡ (j - 1) + 1 = omega arith in
-              (j - 1, omega arith, get_or-remove_above rows p row (j - 1) (omega arith) inside ∙ ap (λ (n : ℕ). get_or rows n row) (sym back) ∙ at)
-        ]
-
     rising_removed : AreRising (remove rows p)
     rising_removed i j e lt within =
         let long = length-remove rows p inside in
@@ -158,7 +155,7 @@ module _ (kept : ℕ → Option Kept) (shapes : List (List SelectorParts)) (rows
       by_test q one false e is =
           let c = was.complete q one is in
           let off : c.1.0 ≢ p = (λ h. absurd (let same : q ≡ id = sym c.2 ∙ ap id_of (sym c.1.2 ∙ get_or_default rows c.1.0 c.0 d c.1.1 ∙ ap (λ (n : ℕ). get_or rows n d) h) ∙ at in grind (arith, nat_tests))) in
-          (c.0, to_removed c.1.0 c.0 c.1.1 off c.1.2, c.2)
+          (c.0, left_over rows p c.1.0 c.0 inside c.1.1 off c.1.2, c.2)
 
     by_place : (k : ℕ) → (k ≡ p) ⊎ (k ≢ p)
     by_place k = elim (cases_lt k p) [

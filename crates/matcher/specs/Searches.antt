@@ -43,9 +43,10 @@ abbrev pub FitsBelow : ℕ → List (List SelectorParts) → HeaderBytes → Row
 FitsBelow count shapes headers row = (row.shape < count) × FitsRow shapes headers row
 
 -- the comparisons of the search for one shape: at least one where there is such a row and the frame has the headers
-pub record IsShapeCost (shapes : List (List SelectorParts)) (rows : List Row) (headers : HeaderBytes) (number before after : ℕ) : Type 0 where
-  pub some : (row : Row) → Contains rows row → row.shape ≡ number → IsSome (frame_key (selectors_at shapes number) headers)
-      → before + 1 ≤ after
+pub record IsShapeCost (shapes : List (List SelectorParts)) (rows : List Row) (headers : HeaderBytes)
+    (number before after : ℕ) : Type 0 where
+  pub some : (row : Row) → Contains rows row → row.shape ≡ number
+      → IsSome (frame_key (selectors_at shapes number) headers) → before + 1 ≤ after
   pub none : ((row : Row) → Contains rows row → ¬ (row.shape ≡ number)) → after ≡ before
   pub most : (d : ℕ) → length rows < 2 ^ d → after ≤ before + (d + 1)
   pub rising : before ≤ after
@@ -64,12 +65,13 @@ abbrev pub AreAllCarried : List (List SelectorParts) → List Row → HeaderByte
 AreAllCarried shapes rows headers count carried = (i : ℕ) → i < count → HasRow rows i
     → IsSome (frame_key (selectors_at shapes i) headers) → Contains carried (shape_of (selectors_at shapes i))
 
--- no two places of the list have one shape
-abbrev pub Differ : List Shape → Type 0
-Differ shapes = (i j : ℕ) (d : Shape) → i < j → j < length shapes → slice_index_or shapes i d ≢ slice_index_or shapes j d
+-- nothing stands at two places of the list
+abbrev pub Differ : {X : Type 0} → List X → Type 0
+Differ {X} items = (i j : ℕ) (d : X) → i < j → j < length items → slice_index_or items i d ≢ slice_index_or items j d
 
 -- the comparisons of the search for the shapes of numbers below the count
-pub record IsTotalCost (shapes : List (List SelectorParts)) (rows : List Row) (headers : HeaderBytes) (count before after : ℕ) : Type 0 where
+pub record IsTotalCost (shapes : List (List SelectorParts)) (rows : List Row) (headers : HeaderBytes)
+    (count before after : ℕ) : Type 0 where
   pub rising : before ≤ after
   pub used : List Shape
   pub apart : Differ used

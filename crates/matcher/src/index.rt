@@ -104,7 +104,8 @@ impl RowIndex {
         requires well_formed { IsWellFormed store.now.limits store.now.objects }
         requires sound { is_sound store.now.limits store.now.objects (changes.PutRule id rule.now) ≡ true }
         requires rows { IsIndex store.now.limits (kept_under store.now.objects) self.old }
-        ensures { IsIndex store.now.limits (kept_under (with_change_made store.now.objects (changes.PutRule id rule.now))) self.new }
+        ensures { IsIndex store.now.limits
+            (kept_under (with_change_made store.now.objects (changes.PutRule id rule.now))) self.new }
     {
         let group_priority = store.group_priority(rule.group()).unwrap_or(0);
         self.renew(store, id, rule, group_priority);
@@ -124,7 +125,8 @@ impl RowIndex {
     fn move_group(&mut self, store: &Store, group: u32, priority: u16)
         requires well_formed { IsWellFormed store.now.limits store.now.objects }
         requires rows { IsIndex store.now.limits (kept_under store.now.objects) self.old }
-        ensures { IsIndex store.now.limits (kept_under (with_change_made store.now.objects (changes.PutGroup group priority))) self.new }
+        ensures { IsIndex store.now.limits
+            (kept_under (with_change_made store.now.objects (changes.PutGroup group priority))) self.new }
     {
         for at in 0..store.rule_count() {
             self.move_rule(store, at, group, priority);
@@ -134,7 +136,8 @@ impl RowIndex {
     /// The rule that is so many rules behind the one of least id takes another priority, where it is of the group.
     fn move_rule(&mut self, store: &Store, at: usize, group: u32, priority: u16)
         requires well_formed { IsWellFormed store.now.limits store.now.objects }
-        requires held { (kept : ℕ → Option Kept) × IsIndex store.now.limits kept self.old × AreHeld store.now.objects kept }
+        requires held { (kept : ℕ → Option Kept) × IsIndex store.now.limits kept self.old
+            × AreHeld store.now.objects kept }
         ensures { (entry : RuleEntry) (kept : ℕ → Option Kept) → slice_get store.now.objects.rules at ≡ Some entry
             → IsIndex store.now.limits kept self.old
             → IsIndex store.now.limits (moved store.now.objects group priority entry kept) self.new }
@@ -151,9 +154,11 @@ impl RowIndex {
         requires well_formed { IsWellFormed store.now.limits store.now.objects }
         requires backed { IsBacked store.now.objects rule.now }
         requires fits { has_room store.now.objects.rules id store.now.limits.rules ≡ true }
-        requires held { (kept : ℕ → Option Kept) × IsIndex store.now.limits kept self.old × AreHeld store.now.objects kept }
+        requires held { (kept : ℕ → Option Kept) × IsIndex store.now.limits kept self.old
+            × AreHeld store.now.objects kept }
         ensures { (kept : ℕ → Option Kept) → IsIndex store.now.limits kept self.old
-            → IsIndex store.now.limits (with_kept kept id (kept_by store.now.objects group_priority (id, rule.now))) self.new }
+            → IsIndex store.now.limits
+            (with_kept kept id (kept_by store.now.objects group_priority (id, rule.now))) self.new }
     {
         if let Some(selectors) = store.selectors(rule.classifier()) {
             let likely = self.likely_place(store, id).unwrap_or(0);
@@ -173,7 +178,8 @@ impl RowIndex {
         requires key_fits { length rule.now.key ≡ key_size selectors.now }
         requires row_fits { ((held : Row) → Contains self.old.rows.items held → id_of held ≢ id)
             → length self.old.rows.items < vec_capacity self.old.rows }
-        requires shape_fits { IsNew self.old.shapes.items selectors.now → AreUsed self.old.shapes.items self.old.rows.items
+        requires shape_fits { IsNew self.old.shapes.items selectors.now
+            → AreUsed self.old.shapes.items self.old.rows.items
             → vec_len self.old.shapes < vec_capacity self.old.shapes }
         ensures rows { (kept : ℕ → Option Kept) → AreRows kept self.old.shapes.items self.old.rows.items
             → AreRows (with_kept kept id (Some (kept_with group_priority (id, rule.now) selectors.now)))

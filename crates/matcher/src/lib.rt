@@ -10,8 +10,8 @@
 //! with room for their limits, and no later call takes memory.
 //!
 //! The modules, lowest first: `scan` (the plain search, a walk over all rules, with which the other is compared),
-//! `keys` (the bits of keys and headers under masks), `rows` (rules as sorted rows), `shapes` (a number for each list of
-//! kinds and masks), `search` (halving), `index` (rows and shapes through each change), `tables`.
+//! `keys` (the bits of keys and headers under masks), `rows` (rules as sorted rows), `shapes` (a number for each list
+//! of kinds and masks), `search` (halving), `index` (rows and shapes through each change), `tables`.
 //!
 //! In specs/, `Tables` is what contracts see of tables, `Findings` what a search gives, `Comparisons` how many keys it
 //! compares; `Candidates`, `Keys`, `Rows`, `Searches` and `Indexes` are how rules are kept and searched.

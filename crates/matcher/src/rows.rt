@@ -96,8 +96,10 @@ pub(crate) fn drop_row(rows: &mut Vec<Row>, id: u32, likely: usize)
 
 /// Where the row of the rule under an id is. It is looked for at the likely place first.
 fn row_of(rows: &[Row], id: u32, likely: usize) -> Option<usize>
-    ensures found { IfSome result (λ place. (place < length rows.now) × ((d : Row) → id_of (slice_index_or rows.now place d) ≡ id)) }
-    ensures none { IfNone result ((place : ℕ) (d : Row) → place < length rows.now → id_of (slice_index_or rows.now place d) ≢ id) }
+    ensures found { IfSome result (λ place. (place < length rows.now)
+        × ((d : Row) → id_of (slice_index_or rows.now place d) ≡ id)) }
+    ensures none { IfNone result ((place : ℕ) (d : Row) → place < length rows.now
+        → id_of (slice_index_or rows.now place d) ≢ id) }
 {
     if is_of(rows, likely, id) {
         return Some(likely);

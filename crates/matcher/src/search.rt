@@ -21,7 +21,7 @@ pub(crate) fn first_with<L: Ledger>(
     ensures first { IsFirstAmong rows.now (HasKey number key.now.items) result }
     ensures cost { IsCost rows.now number steps.old steps.new }
 {
-    let place = place_of(rows, number, key, steps);
+    let place = row_place(rows, number, key, steps);
     if place == rows.len() {
         return None;
     }
@@ -48,14 +48,16 @@ fn has_key<L: Ledger>(row: &Row, number: usize, key: &Key, steps: &mut Steps<L>)
 }
 
 /// Where the first row with a shape's number and a key is, or would be.
-fn place_of<L: Ledger>(rows: &[Row], number: usize, key: &Key, steps: &mut Steps<L>) -> usize
+fn row_place<L: Ledger>(rows: &[Row], number: usize, key: &Key, steps: &mut Steps<L>) -> usize
     requires { AreRising rows.now }
     ensures within { result ≤ length rows.now }
-    ensures before { (k : ℕ) (d : Row) → k < result → precedes number key.now.items (slice_index_or rows.now k d) ≡ true }
+    ensures before { (k : ℕ) (d : Row) → k < result
+        → precedes number key.now.items (slice_index_or rows.now k d) ≡ true }
     ensures behind { (k : ℕ) (d : Row) → result ≤ k → k < length rows.now
         → precedes number key.now.items (slice_index_or rows.now k d) ≡ false }
     ensures rising { steps.old ≤ steps.new }
-    ensures some { (k : ℕ) (d : Row) → k < result → (slice_index_or rows.now k d).shape ≡ number → steps.old + 1 ≤ steps.new }
+    ensures some { (k : ℕ) (d : Row) → k < result → (slice_index_or rows.now k d).shape ≡ number
+        → steps.old + 1 ≤ steps.new }
     ensures none { ((row : Row) → Contains rows.now row → ¬ (row.shape ≡ number)) → steps.new ≡ steps.old }
     ensures few { 2 ^ (steps.new - steps.old) ≤ 2 * length rows.now + 1 }
 {

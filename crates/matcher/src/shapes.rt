@@ -1,8 +1,7 @@
 //! The shapes of the classifiers that rules name: each has one number.
 
-ghost use Rattle.std.specs.Prelude.{◌≡◌, ◌≢◌, ℕ, ◌+◌, ◌<◌, ◌==◌, IsTrue, ◌↔◌, true, false, Option, List, IfSome, IfNone, length, vec_len, vec_capacity};
+ghost use Rattle.std.specs.Prelude.{◌≡◌, ℕ, ◌<◌, ◌==◌, IsTrue, ◌↔◌, true, false, Option, IfSome, IfNone, length, vec_len, vec_capacity};
 ghost use Rattle.std.specs.List.{list_any};
-ghost use Rattle.ff_headers.specs.SelectorParts.{SelectorParts};
 ghost use Rattle.matcher.specs.Keys.{shape_of, part_of};
 ghost use Rattle.matcher.specs.Rows.{Kept, selectors_at, IsNew, AreUsed, AreRows};
 
@@ -15,7 +14,8 @@ pub(crate) fn number_for(shapes: &mut Vec<Selectors>, rows: &[Row], selectors: &
         → vec_len shapes.old < vec_capacity shapes.old }
     ensures inside { result < length shapes.new.items }
     ensures shape { shape_of (selectors_at shapes.new.items result) ≡ shape_of selectors.now }
-    ensures rows { (kept : ℕ → Option Kept) → AreRows kept shapes.old.items rows.now → AreRows kept shapes.new.items rows.now }
+    ensures rows { (kept : ℕ → Option Kept) → AreRows kept shapes.old.items rows.now
+        → AreRows kept shapes.new.items rows.now }
     ensures room { vec_capacity shapes.new ≡ vec_capacity shapes.old }
 {
     if let Some(number) = number_of(shapes, selectors) {
@@ -45,8 +45,10 @@ pub(crate) fn number_of(shapes: &[Selectors], selectors: &Selectors) -> Option<u
 
 /// A number below the count that no row has.
 fn unused_number(count: usize, rows: &[Row]) -> Option<usize>
-    ensures found { IfSome result (λ number. (number < count) × (list_any (λ row. row.shape == number) rows.now ≡ false)) }
-    ensures none { IfNone result ((number : ℕ) → number < count → list_any (λ row. row.shape == number) rows.now ≡ true) }
+    ensures found { IfSome result (λ number. (number < count)
+        × (list_any (λ row. row.shape == number) rows.now ≡ false)) }
+    ensures none { IfNone result ((number : ℕ) → number < count
+        → list_any (λ row. row.shape == number) rows.now ≡ true) }
 {
     for number in 0..count {
         if !is_used(rows, number) {

@@ -74,8 +74,8 @@ impl Tables {
     }
 
     /// The first rule that matches a frame with these headers, and what happens to the frame. A step is a comparison of
-    /// two keys: at least one for each list of kinds and masks of a rule's classifier whose headers the frame has, and at
-    /// most d + 1 for each such list, where there are fewer than 2^d rules.
+    /// two keys: at least one for each list of kinds and masks of a rule's classifier whose headers the frame has, and
+    /// at most d + 1 for each such list, where there are fewer than 2^d rules.
     pub fn find<L: Ledger>(&self, headers: &Headers, steps: &mut Steps<L>) -> Found
         ensures value { result ≡ found_in self.now.objects headers.now }
         ensures action { result.action ≡ action_of self.now.objects headers.now }

@@ -1,6 +1,6 @@
 //! The commands that create the objects of specs.
 
-ghost use Rattle.std.specs.Prelude.{◌≡◌, ◌+◌, ◌/◌, ◌%◌, ◌^◌, ◌<◌, ◌≤◌, ◌++◌, IfOk, OnOk, All, length, map};
+ghost use Rattle.std.specs.Prelude.{◌≡◌, ◌+◌, ◌/◌, ◌%◌, ◌<◌, ◌≤◌, ◌++◌, IfOk, OnOk, All, length, map};
 ghost use Rattle.std.specs.Int.{div_ceil};
 ghost use Rattle.std.specs.List.{enumerate_from, range_with_len};
 ghost use Rattle.ntuple_text.specs.TableMaps.{location_count};
@@ -108,7 +108,8 @@ fn create_rules(
     requires few_shapes { length shapes.now.firsts.items ≤ location_count }
     requires numbered { IsNumbered shapes.now.firsts.items (number_under shapes.now.numbers) }
     ensures { OnOk result (commands.new ≡ commands.old ++ map create_rule
-        (map (λ e. (e.0, spec_rule size (map selectors_of shapes.now.firsts.items) e.0 e.1)) (enumerate_from 0 specs.now))) }
+        (map (λ e. (e.0, spec_rule size (map selectors_of shapes.now.firsts.items) e.0 e.1))
+        (enumerate_from 0 specs.now))) }
 {
     for (id, spec) in specs.iter().enumerate() {
         let head = create_head(VIRTIO_NET_RESOURCE_OBJ_FF_RULE, id as u32);

@@ -1,6 +1,6 @@
 //! A table's commands.
 
-ghost use Rattle.std.specs.Prelude.{◌≡◌, ◌≤◌, Ok, IfOk, OnOk, All, MatchResult, length, vec_len};
+ghost use Rattle.std.specs.Prelude.{◌≡◌, ◌≤◌, Ok, IfOk, OnOk, All, MatchResult, vec_len};
 ghost use Rattle.ntuple_text.specs.Spellable.{IsTable};
 ghost use Rattle.ntuple_text.specs.TableMaps.{location_count};
 ghost use Rattle.ntuple_compile.specs.Acceptance.{ActAs, AreAccepted, IsWritable};

@@ -7,9 +7,9 @@
 //!
 //! It promises that [`compile`] gives the commands of a table, or exactly the first reason why the device can't have
 //! them; that each command has bytes; that a device which starts ready answers each with OK; and that after them it
-//! does with every frame what the table does. In `laws` it promises that a given field agrees with a frame's bit by bit,
-//! that the least location decides, and that a frame matches the selectors and the key of a spec exactly where it fits
-//! the spec, if a line can spell that one.
+//! does with every frame what the table does. In `laws` it promises that a given field agrees with a frame's bit by
+//! bit, that the least location decides, and that a frame matches the selectors and the key of a spec exactly where it
+//! fits the spec, if a line can spell that one.
 //!
 //! Definitions, in specs/: `HeaderFields` and `SpecFits` (when a frame fits a spec, and what a table does with it:
 //! fields as numbers, with no selector, key or mask of bytes), `Selected` (the selectors and the key of a spec),

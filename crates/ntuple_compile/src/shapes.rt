@@ -3,7 +3,7 @@
 //! Two specs share a classifier where their selectors have the same kinds and masks. The classifier of a spec is found
 //! by bytes in a sorted map, so no search goes over all of them.
 
-ghost use Rattle.std.specs.Prelude.{◌≡◌, ◌+◌, ◌≤◌, IfOk, OnOk, All, length, map};
+ghost use Rattle.std.specs.Prelude.{◌≡◌, ◌≤◌, IfOk, OnOk, All, length, map};
 ghost use Rattle.ntuple_compile.specs.Compiled.{shape_number, shapes_of};
 ghost use Rattle.ntuple_compile.specs.Selected.{AreGiven, selectors_of};
 ghost use Rattle.ntuple_compile.specs.ShapeBytes.{IsNumbered, number_under, shape_bytes, with_use};

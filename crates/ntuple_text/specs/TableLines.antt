@@ -21,10 +21,6 @@ use Rattle.ntuple_text.specs.declared.spec.Flow.{Flow}
 use Rattle.ntuple_text.specs.declared.spec.Spec.{Spec}
 use Rattle.ntuple_text.specs.declared.spec.TableDo.{TableDo}
 
--- the most bytes of a text that is read: 64 MiB
-abbrev pub text_limit : ℕ
-text_limit = 67108864
-
 -- the words for adding and removing specs that ethtool(8) takes after its name
 unfoldable pub is_flag : List ℕ → Bool
 is_flag word =

@@ -1,5 +1,5 @@
 //! Numbers that are joined by a separator, as the parts of an address are.
-ghost use Rattle.std.specs.Prelude.{◌≡◌, ◌≤◌, ◌<◌, ◌^◌, ◌∷◌, [], length, count_by, MatchOption, IfSome};
+ghost use Rattle.std.specs.Prelude.{◌≡◌, ◌≤◌, ◌<◌, ◌∷◌, [], length, count_by, MatchOption, IfSome};
 ghost use Rattle.std.specs.List.{position, slice_split};
 ghost use Rattle.arrayvec.specs.ArrayVec.{array_vec_len};
 ghost use Rattle.vnff_base.specs.Numbers.{number_of};

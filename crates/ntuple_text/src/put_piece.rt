@@ -1,5 +1,5 @@
 //! Addresses and numbers, put to an output.
-ghost use Rattle.std.specs.Prelude.{◌≡◌, ◌<◌, ◌≤◌, length, decimal, slice_index, drop, ◌++◌};
+ghost use Rattle.std.specs.Prelude.{◌≡◌, ◌<◌, ◌≤◌, decimal, drop};
 ghost use Rattle.std.specs.List.{flat_map};
 ghost use Rattle.vnff_base.specs.Outputs.{Writes};
 ghost use Rattle.ntuple_text.specs.Pieces.{group_base, most_groups};

@@ -1,9 +1,10 @@
 //! Tables read from text, line by line.
 ghost use Rattle.std.specs.Prelude.{◌≡◌, ◌≤◌, ◌⊎◌, Ok, Err, IfOk, MatchResult, length};
 ghost use Rattle.vnff_base.specs.Lines.{word_lines, words_of};
+ghost use Rattle.vnff_base.specs.Shelves.{file_limit};
 ghost use Rattle.ntuple_text.specs.Spellable.{IsSpellable};
 ghost use Rattle.ntuple_text.specs.TableLines.{after_delete, after_directive, after_line, after_lines, is_flag};
-ghost use Rattle.ntuple_text.specs.TableLines.{location_or_free, spec_at_end, spec_of, table_of, text_limit};
+ghost use Rattle.ntuple_text.specs.TableLines.{location_or_free, spec_at_end, spec_of, table_of};
 ghost use Rattle.ntuple_text.specs.TableLines.{without_command};
 ghost use Rattle.ntuple_text.specs.TableMaps.{pair_limit};
 
@@ -20,7 +21,7 @@ use vnff_base::{LineReader, first_word};
 /// fault, from left to right.
 #[tactic(auto, unfolding(crate::specs::TableLines::table_of))]
 pub fn read_table(alloc: Global, text: &[u8], pairs: u8) -> Result<Table, TextErr>
-    requires text { length text.now ≤ text_limit }
+    requires text { length text.now ≤ file_limit }
     requires some_pairs { 1 ≤ pairs }
     requires most_pairs { pairs ≤ pair_limit }
     ensures read { MatchResult result (λ table. table_of pairs (word_lines text.now) ≡ Ok table)
@@ -37,7 +38,7 @@ pub fn read_table(alloc: Global, text: &[u8], pairs: u8) -> Result<Table, TextEr
 
 // The table after the lines of a text.
 fn read_lines(table: &mut Table, text: &[u8]) -> Result<(), TextErr>
-    requires { length text.now ≤ text_limit }
+    requires { length text.now ≤ file_limit }
     ensures { MatchResult result (λ _. after_lines table.old (word_lines text.now) ≡ Ok table.new)
         (λ err. after_lines table.old (word_lines text.now) ≡ Err err) }
 {

@@ -30,7 +30,8 @@ impl Model for Table {
 }
 
 impl Table {
-    /// A table without a spec for 1 to 16 queue pairs. It takes the room of all 1,024 locations, so `set` takes no memory.
+    /// A table without a spec for 1 to 16 queue pairs. It takes the room of all 1,024 locations, so `set` takes no
+    /// memory.
     pub fn empty(alloc: Global, pairs: u8) -> Result<Table, AllocError>
         requires some_pairs { 1 ≤ pairs }
         requires most_pairs { pairs ≤ pair_limit }
@@ -77,8 +78,8 @@ impl Table {
         &self.slots
     }
 
-    /// Puts a spec, which a line can spell for the table's queue pairs, at its location, in the place of the one that stood
-    /// there. All other locations stay as they are, and it takes no memory.
+    /// Puts a spec, which a line can spell for the table's queue pairs, at its location, in the place of the one that
+    /// stood there. All other locations stay as they are, and it takes no memory.
     pub fn set(&mut self, spec: Spec)
         requires { IsSpellable self.old.pairs spec }
         ensures { self.new ≡ with_spec self.old spec }

@@ -16,7 +16,8 @@ pub record BoundedMap (T : Type 0) : Type 0 where
 -- a bounded map is stored as the pair of its fields
 abbrev pub bounded_map_code : {T : Type 0} → Coded T → Coded (BoundedMap T)
 bounded_map_code {T} code =
-    code_by (List (ℕ × T) × ℕ) (coded× (coded_list (coded× coded_ℕ code)) coded_ℕ) (λ m. (m.entries, m.room)) (λ p. record {
+    code_by (List (ℕ × T) × ℕ) (coded× (coded_list (coded× coded_ℕ code)) coded_ℕ)
+    (λ m. (m.entries, m.room)) (λ p. record {
       entries =
           p.0;
       room = p.1;

@@ -21,7 +21,8 @@ pub record SlotTable (T : Type 0) : Type 0 where
 -- a table is stored as the pair of its fields
 abbrev pub slot_table_code : {T : Type 0} → Coded T → Coded (SlotTable T)
 slot_table_code {T} code =
-    code_by (List (Option T) × ℕ) (coded× (coded_list (coded_option code)) coded_ℕ) (λ t. (t.cells, t.room)) (λ p. record {
+    code_by (List (Option T) × ℕ) (coded× (coded_list (coded_option code)) coded_ℕ)
+    (λ t. (t.cells, t.room)) (λ p. record {
       cells =
           p.0;
       room = p.1;
@@ -54,7 +55,8 @@ module _ {T : Type 0} where
   abbrev pub IsFreeList : List (Option T) → List ℕ → Type 0
   IsFreeList cells [] = ⊤
   IsFreeList cells (slot ∷ slots) =
-      (slot < length cells) × (object_in cells slot ≡ None) × AllByRecursion (λ other. other ≢ slot) slots × IsFreeList cells slots
+      (slot < length cells) × (object_in cells slot ≡ None) × AllByRecursion (λ other. other ≢ slot) slots
+      × IsFreeList cells slots
 
   -- the invariant of the slots: with the free list's, those that hold an object are all that were ever used, there is
   -- room for all of them in the list, and their numbers are below 2^32

@@ -10,12 +10,13 @@ use Rattle.capture.proofs.CaptureLaws.{is-capture_of, capture-written}
 use Rattle.std.proofs.lemmas.Bool.{false≢true}
 use Rattle.vnff_base.specs.Counts.{count_after}
 use Rattle.vnff_base.specs.Outputs.{OutputState, told_after, Stopped, Writes}
+use Rattle.capture.specs.Sizes.{longest_frame}
 use Rattle.rx_sinks.specs.Sinks.{SinkState, Faulted, Delivers, Finishes}
 use Rattle.rx_sinks.specs.CaptureSinks.{CaptureSinkState, capture_state, frames_of, first_text, IsWritten, IsSound, TellsCapture, TellsWritten}
 
 -- the longest frame
 abbrev IsShort : List ℕ → Type 0
-IsShort frame = length frame ≤ 262144
+IsShort frame = length frame ≤ longest_frame
 
 -- a capture with one more frame
 more_text : (frames : List (List ℕ)) (frame : List ℕ) → capture_text frames ++ record_text frame ≡ capture_text (frames ++ frame ∷ [])
@@ -49,7 +50,7 @@ one_more : (frames : List (List ℕ)) (frame : List ℕ) → All IsShort frames 
 one_more frames frame short within = All-append IsShort frames (frame ∷ []) short (All-cons IsShort frame [] within (All-nil IsShort))
 
 -- the frames after one more, where the output tells its bytes
-frames_of-more : (begun : Bool) (told : Option (List ℕ)) (frame : List ℕ) → IfSome told (IsWritten begun) → length frame ≤ 262144 → option_and_then frames_of (told_after told (first_text begun ++ record_text frame)) ≡ option_map (λ frames. frames ++ frame ∷ []) (option_and_then frames_of told)
+frames_of-more : (begun : Bool) (told : Option (List ℕ)) (frame : List ℕ) → IfSome told (IsWritten begun) → length frame ≤ longest_frame → option_and_then frames_of (told_after told (first_text begun ++ record_text frame)) ≡ option_map (λ frames. frames ++ frame ∷ []) (option_and_then frames_of told)
 frames_of-more begun None frame written within = refl
 frames_of-more begun (Some bytes) frame written within =
     let (frames, is, short, read) = begun_text begun bytes written in
@@ -60,7 +61,7 @@ frames_of-more begun (Some bytes) frame written within =
     ∙ sym (ap (option_map (λ fs. fs ++ frame ∷ [])) read)
 
 -- what is written with one more frame
-written-more : (begun : Bool) (told : Option (List ℕ)) (frame : List ℕ) → IfSome told (IsWritten begun) → length frame ≤ 262144 → IfSome (told_after told (first_text begun ++ record_text frame)) (IsWritten true)
+written-more : (begun : Bool) (told : Option (List ℕ)) (frame : List ℕ) → IfSome told (IsWritten begun) → length frame ≤ longest_frame → IfSome (told_after told (first_text begun ++ record_text frame)) (IsWritten true)
 written-more begun None frame written within = tt
 written-more begun (Some bytes) frame written within =
     let (frames, is, short, read) = begun_text begun bytes written in
@@ -115,7 +116,7 @@ put_failed old output text stopped = record {
 }
 
 -- What a sink shows after a frame's record was put, or stopped.
-pub capture_delivers : {A E : Type 0} (old : CaptureSinkState) (output : OutputState) (broken : Bool) (frame : List ℕ) (result : Result A E) → IsSound old → old.broken ≡ false → length frame ≤ 262144 → broken ≡ is_err result → Writes old.output output (first_text old.begun ++ record_text frame) result → Delivers (capture_state old) (capture_state (after_put old output broken)) frame result
+pub capture_delivers : {A E : Type 0} (old : CaptureSinkState) (output : OutputState) (broken : Bool) (frame : List ℕ) (result : Result A E) → IsSound old → old.broken ≡ false → length frame ≤ longest_frame → broken ≡ is_err result → Writes old.output output (first_text old.begun ++ record_text frame) result → Delivers (capture_state old) (capture_state (after_put old output broken)) frame result
 capture_delivers old output broken frame (Ok x) sound whole within is wrote =
     let told = told_frames (after_put old output broken) is ∙ ap (option_and_then frames_of) wrote.told ∙ frames_of-more old.begun old.output.told frame (sound whole) within ∙ sym (ap (option_map (λ fs. fs ++ frame ∷ [])) (told_frames old whole)) in
     ap (λ frames. shown frames old.refused output.faults) told ∙ ap (shown (option_map (λ fs. fs ++ frame ∷ []) (capture_state old).frames) old.refused) wrote.faults
@@ -131,7 +132,7 @@ capture_finishes old output broken (Err e) sound whole is stopped =
     subst (λ b. Faulted (capture_state old) (capture_state (after_put old output b))) (sym is) (put_failed old output (first_text old.begun) stopped)
 
 -- What was put of a frame keeps the sink sound.
-pub sound_delivered : {A E : Type 0} (old : CaptureSinkState) (output : OutputState) (broken : Bool) (frame : List ℕ) (result : Result A E) → IsSound old → old.broken ≡ false → length frame ≤ 262144 → broken ≡ is_err result → Writes old.output output (first_text old.begun ++ record_text frame) result → IsSound (after_put old output broken)
+pub sound_delivered : {A E : Type 0} (old : CaptureSinkState) (output : OutputState) (broken : Bool) (frame : List ℕ) (result : Result A E) → IsSound old → old.broken ≡ false → length frame ≤ longest_frame → broken ≡ is_err result → Writes old.output output (first_text old.begun ++ record_text frame) result → IsSound (after_put old output broken)
 sound_delivered old output broken frame (Ok x) sound whole within is wrote =
     λ _. subst (λ told. IfSome told (IsWritten true)) (sym wrote.told) (written-more old.begun old.output.told frame (sound whole) within)
 sound_delivered old output broken frame (Err e) sound whole within is stopped = λ unbroken. absurd (false≢true (sym unbroken ∙ is))

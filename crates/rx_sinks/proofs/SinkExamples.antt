@@ -2,6 +2,7 @@
 use Rattle.std.proofs.Common.{◌≡◌, ◌≤◌, ℕ, All, List, length, true, false, [], ◌∷◌, None, Some, refl, arith}
 use Rattle.std.proofs.lemmas.List.Elements.{All-nil, All-cons}
 use Rattle.capture.specs.Captures.{header_text, capture_text}
+use Rattle.capture.specs.Sizes.{longest_frame}
 use Rattle.rx_sinks.specs.Sinks.{SinkState, appended, finished, frame_at}
 use Rattle.rx_sinks.specs.Racks.{no_sink, sink_at}
 use Rattle.rx_sinks.specs.MemSinks.{byte_count}
@@ -61,9 +62,9 @@ of_nothing = refl
 two_frames : List (List ℕ)
 two_frames = (7 ∷ 8 ∷ []) ∷ [] ∷ []
 
-both_short : All (λ frame. length frame ≤ 262144) two_frames
+both_short : All (λ frame. length frame ≤ longest_frame) two_frames
 unfolding two_frames
-both_short = let P : List ℕ → Type 0 = λ frame. length frame ≤ 262144 in All-cons P (7 ∷ 8 ∷ []) ([] ∷ []) (omega arith) (All-cons P [] [] (omega arith) (All-nil P))
+both_short = let P : List ℕ → Type 0 = λ frame. length frame ≤ longest_frame in All-cons P (7 ∷ 8 ∷ []) ([] ∷ []) (omega arith) (All-cons P [] [] (omega arith) (All-nil P))
 
 of_two : frames_of (capture_text two_frames) ≡ Some two_frames
 of_two = frames_of-text two_frames both_short

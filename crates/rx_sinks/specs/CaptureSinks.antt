@@ -4,6 +4,7 @@ use Rattle.std.specs.Result.{result_ok}
 use Rattle.vnff_base.specs.Counts.{count_after}
 use Rattle.vnff_base.specs.Outputs.{OutputState, Writes}
 use Rattle.capture.specs.Captures.{IsCapture, capture_of, header_text, capture_text}
+use Rattle.capture.specs.Sizes.{longest_frame}
 use Rattle.rx_sinks.specs.Sinks.{SinkState}
 
 -- the output; whether the header was put, whether a put failed, and how many calls were refused after that
@@ -36,7 +37,7 @@ first_text begun = if begun then [] else header_text
 abbrev pub IsWritten : Bool → List ℕ → Type 0
 IsWritten false bytes = bytes ≡ []
 IsWritten true bytes =
-    (frames : List (List ℕ)) × (bytes ≡ capture_text frames) × All (λ frame. length frame ≤ 262144) frames
+    (frames : List (List ℕ)) × (bytes ≡ capture_text frames) × All (λ frame. length frame ≤ longest_frame) frames
 
 -- Where no put failed and the output tells its bytes, they are what such a sink writes.
 abbrev pub IsSound : CaptureSinkState → Type 0
@@ -51,8 +52,9 @@ abbrev pub TellsWritten : CaptureSinkState → Type 0
 TellsWritten sink =
     IfSome sink.output.told (λ bytes. (bytes ≡ []) × ((capture_state sink).frames ≡ Some [])) ⊎ TellsCapture sink
 
--- What a call did that was to put a text. A sink of which a put failed puts nothing more, and counts the call as failed;
--- of any other a front of the text is put where the output fails, which breaks the sink, and otherwise the text.
+-- What a call did that was to put a text. A sink of which a put failed puts nothing more, and counts the call as
+-- failed; of any other a front of the text is put where the output fails, which breaks the sink, and otherwise the
+-- text.
 pub record Puts {A E : Type 0} (old new : CaptureSinkState) (text : List ℕ) (result : Result A E) : Type 0 where
   pub refuses : old.broken ≡ true → IsErr result × (new ≡ record old { refused = count_after old.refused 1 })
   pub writes : old.broken ≡ false → Writes old.output new.output text result

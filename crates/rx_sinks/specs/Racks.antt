@@ -18,7 +18,8 @@ pub record OneSink (queue : ℕ) (Changed : SinkState → SinkState → Type 0) 
   pub others : (q : ℕ) → q ≢ queue → sink_at new q ≡ sink_at old q
 
 -- The sinks of the first queues were each changed so, where the queue may matter, and no others.
-pub record FirstSinks (pairs : ℕ) (Changed : ℕ → SinkState → SinkState → Type 0) (old new : List SinkState) : Type 0 where
+pub record FirstSinks (pairs : ℕ) (Changed : ℕ → SinkState → SinkState → Type 0) (old new : List SinkState)
+    : Type 0 where
   pub count : length new ≡ length old
   pub first : (q : ℕ) → q < pairs → Changed q (sink_at old q) (sink_at new q)
   pub rest : (q : ℕ) → pairs ≤ q → sink_at new q ≡ sink_at old q

@@ -4,6 +4,7 @@ ghost use Rattle.std.specs.Prelude.{◌≡◌, ◌≤◌, ◌++◌, [], length, 
 ghost use Rattle.capture.specs.Captures.{record_text};
 ghost use Rattle.vnff_base.specs.Counts.{count_after};
 ghost use Rattle.vnff_base.specs.Outputs.{Writes};
+ghost use Rattle.capture.specs.Sizes.{longest_frame};
 ghost use Rattle.rx_sinks.specs.CaptureSinks.{capture_state, first_text, TellsCapture, TellsWritten, Puts};
 ghost use Rattle.rx_sinks.specs.Sinks.{Delivers, Finishes};
 
@@ -86,7 +87,7 @@ impl<O: Out + Drop> RxSink for CaptureSink<O> {
 
     /// Writes the frame's record, and before the first one the capture's header.
     fn deliver(&mut self, frame: &[u8]) -> Result<(), Failed>
-        requires { length frame.now ≤ 262144 }
+        requires { length frame.now ≤ longest_frame }
         ensures delivers { Delivers (capture_state self.old) (capture_state self.new) frame.now result }
         ensures puts { Puts self.old self.new (first_text self.old.begun ++ record_text frame.now) result }
         ensures capture { OnOk result (TellsCapture self.new) }
@@ -136,7 +137,7 @@ fn begin<O: Out>(out: &mut O, begun: bool) -> Result<(), Failed>
 
 /// Puts a frame's record, and before it the header, where that wasn't done yet.
 fn put_record<O: Out>(out: &mut O, begun: bool, frame: &[u8]) -> Result<(), Failed>
-    requires { length frame.now ≤ 262144 }
+    requires { length frame.now ≤ longest_frame }
     ensures { Writes (O.state out.old) (O.state out.new) (first_text begun ++ record_text frame.now) result }
 {
     begin(out, begun)?;

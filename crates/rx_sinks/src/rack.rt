@@ -2,6 +2,7 @@
 
 ghost use Rattle.std.specs.Prelude.{◌≡◌, ◌<◌, ◌≤◌, ◌↔◌, List, map, length, IsTrue, IsSome, IsNone, IfSome};
 ghost use Rattle.std.specs.Option.{option_copied};
+ghost use Rattle.capture.specs.Sizes.{longest_frame};
 ghost use Rattle.rx_sinks.specs.Racks.{OneSink, FinishesFirst, sink_at};
 ghost use Rattle.rx_sinks.specs.Sinks.{SinkState, Delivers, frame_at};
 
@@ -42,14 +43,15 @@ impl Rack {
     /// Delivers a frame of at most 262,144 bytes to the sink of a queue, and to no other. The failure is that sink's.
     pub fn deliver(&mut self, queue: u16, frame: &[u8]) -> Result<(), Failed>
         requires queue { queue < length (⟦<Rack as SinkList>⟧.sinks self.old) }
-        requires frame { length frame.now ≤ 262144 }
+        requires frame { length frame.now ≤ longest_frame }
         ensures { OneSink queue (λ a b. Delivers a b frame.now result)
             (⟦<Rack as SinkList>⟧.sinks self.old) (⟦<Rack as SinkList>⟧.sinks self.new) }
     {
         deliver_to(&mut self.sinks, queue as usize, frame)
     }
 
-    /// Finishes the sinks of the first queues in order, each once, whatever each answers. It failed where one of them did.
+    /// Finishes the sinks of the first queues in order, each once, whatever each answers. It failed where one of them
+    /// did.
     pub fn finish(&mut self, pairs: u8) -> Result<(), Failed>
         requires { pairs ≤ length (⟦<Rack as SinkList>⟧.sinks self.old) }
         ensures { FinishesFirst pairs
@@ -83,7 +85,7 @@ impl Rack {
 /// Delivers a frame to one of several sinks.
 fn deliver_to<S: RxSink>(sinks: &mut Vec<S>, queue: usize, frame: &[u8]) -> Result<(), Failed>
     requires queue { queue < length sinks.old.items }
-    requires frame { length frame.now ≤ 262144 }
+    requires frame { length frame.now ≤ longest_frame }
     ensures { OneSink queue (λ a b. Delivers a b frame.now result)
         (map S.state sinks.old.items) (map S.state sinks.new.items) }
 {

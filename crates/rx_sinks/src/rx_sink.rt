@@ -2,19 +2,21 @@
 
 ghost use Rattle.std.specs.Prelude.{◌≡◌, ◌≤◌, ◌↔◌, length, IsTrue, IsSome, IsNone, IfSome};
 ghost use Rattle.std.specs.Option.{option_copied};
+ghost use Rattle.capture.specs.Sizes.{longest_frame};
 ghost use Rattle.rx_sinks.specs.Sinks.{SinkState, Delivers, Finishes, frame_at};
 
 use vnff_base::Failed;
 
 /// A place that the frames of one receive queue go to, one after another.
 pub trait RxSink: Drop {
-    // The frames delivered so far, where the sink tells them; how often it failed and how often it was finished, where it
-    // tells that; and whether it gives its frames by `told`. Neither count falls, and each stands still at 2^64 - 1.
+    // The frames delivered so far, where the sink tells them; how often it failed and how often it was finished, where
+    // it tells that; and whether it gives its frames by `told`. Neither count falls, and each stands still at 2^64 - 1.
     ghost state: { Self → SinkState };
 
-    /// Appends a frame of at most 262,144 bytes. A failed call appends nothing, and the sink may tell its frames no more.
+    /// Appends a frame of at most 262,144 bytes. A failed call appends nothing, and the sink may tell its frames no
+    /// more.
     fn deliver(&mut self, frame: &[u8]) -> Result<(), Failed>
-        requires { length frame.now ≤ 262144 }
+        requires { length frame.now ≤ longest_frame }
         ensures { Delivers (state self.old) (state self.new) frame.now result };
 
     /// Ends the frames, which stay. It counts as one finish, whatever it answers.

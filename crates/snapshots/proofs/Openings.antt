@@ -1,5 +1,5 @@
 -- What `open` gives, from its parts.
-use Rattle.std.specs.Prelude.{◌≡◌, ℕ, List, [], ◌∷◌, length, All, Option, Some, IfSome}
+use Rattle.std.specs.Prelude.{◌≡◌, ℕ, List, [], length, All, Option, Some, IfSome}
 use Rattle.std.proofs.Common.{subst, ◌∙◌, refl}
 use Rattle.ff_headers.specs.declared.limits.Limits.{Limits}
 use Rattle.snapshots.specs.Lists.{ToldList}

@@ -20,7 +20,7 @@ mod copied;
 mod door;
 mod ends;
 mod floors;
-mod held;
+mod held_door;
 mod law;
 pub mod laws;
 mod opening;
@@ -34,7 +34,7 @@ mod worker;
 
 pub use door::{Door, PairDoor, Shut};
 pub use ends::{AdminEnd, Closed};
-pub use held::HeldDoor;
+pub use held_door::HeldDoor;
 pub use opening::open;
 pub use seen::Seen;
 pub use told::Told;

@@ -1,8 +1,7 @@
 //! Opening tables for a writing side and workers.
 
-ghost use Rattle.std.specs.Prelude.{◌≡◌, ◌≤◌, ◌<◌, ◌^◌, [], ◌∷◌, All, IfOk, IfSome, IsSomeAnd, drop, length, MatchResult};
+ghost use Rattle.std.specs.Prelude.{◌≡◌, ◌≤◌, ◌<◌, [], All, IfOk, IfSome, drop, length};
 ghost use Rattle.left_right.specs.Sides.{view as seat_view};
-ghost use Rattle.snapshots.specs.Ends.{EndState};
 ghost use Rattle.snapshots.specs.Fresh.{IsFresh, IsOpened, end_of};
 ghost use Rattle.snapshots.specs.Doors.{KnowsTables};
 ghost use Rattle.snapshots.specs.Seats.{copy_of};

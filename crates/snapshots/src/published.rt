@@ -118,7 +118,7 @@ fn publish<R: Wait>(
     let mut writer = copies.take().unwrap();
     if let Err(entry) = writer.append(Entry::Made(change, trail)) {
         put_back(copies, rt, writer);
-        return Err(change_of(entry));
+        return Err(change_in(entry));
     }
     let (writer, outcome) = writer.publish_as::<Show, R>(rt);
     let _ = outcome;
@@ -136,7 +136,7 @@ fn put_back<R: Wait>(place: &mut Option<Copies>, rt: &R, copies: Copies)
 }
 
 /// The change of an entry that has one.
-fn change_of(entry: Entry) -> Change
+fn change_in(entry: Entry) -> Change
     requires { HasChange entry }
     ensures { (change : Change) (trail : ToldList) → entry ≡ Made change trail → result ≡ change }
 {

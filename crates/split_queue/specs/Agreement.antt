@@ -78,20 +78,23 @@ pub record IsRound (driver : DriverEndState) (device : DeviceEndState) (round : 
 abbrev pub after_round : DriverEndState → Round → DriverEndState
 after_round driver round = after_take (after_post driver (length round.pieces)) round.head
 
--- places for a command and its reply: no writable piece shares a byte with a readable one, nor with another writable one
+-- places for a command and its reply: no writable piece shares a byte with a readable one, nor with another writable
+-- one
 pub record LieApartForReply (pieces : List Piece) (readable : ℕ) : Type 0 where
   pub command : All (λ p. All (AreApart p) (drop readable pieces)) (take readable pieces)
   pub reply : AllPairs AreApart (drop readable pieces)
 
 -- a round in which the device writes a reply into the writable pieces, which have room for it, and nothing else
-pub record IsReplyRound (driver : DriverEndState) (device : DeviceEndState) (round : Round) (reply : List ℕ) : Type 0 where
+pub record IsReplyRound (driver : DriverEndState) (device : DeviceEndState) (round : Round) (reply : List ℕ)
+    : Type 0 where
   pub is_round : IsRound driver device round
   pub postable : ArePostable (length round.at_post) driver.place round.pieces round.readable
   pub lengths : All (λ p. p.len < 2 ^ 32) round.pieces
   pub places : LieApartForReply round.pieces round.readable
   pub fits : length reply ≤ room_of (drop round.readable round.pieces)
   pub written : round.at_push
-      ≡ with_bytes_in (with_post round.at_post driver round.pieces round.readable) (drop round.readable round.pieces) reply
+      ≡ with_bytes_in (with_post round.at_post driver round.pieces round.readable)
+      (drop round.readable round.pieces) reply
 
 -- the descriptors with these numbers hold just these pieces, in order: the first `readable` are for the device to read,
 -- and the others for it to write
@@ -102,10 +105,10 @@ pub record HoldPieces (mem : List ℕ) (place : Place) (numbers : List ℕ) (pie
   pub writable_then : All (λ n. is_writable (descriptor_at mem place n) ≡ true) (drop readable numbers)
 
 -- the queue holds a command and its reply: the slot that was filled last has the head of this chain, the longest walk
--- from it holds just these pieces, of which so many are readable, the chain's writable buffers begin with the reply, and
--- the used element that was written last names its head and a length
-pub record HoldsAnswer (mem : List ℕ) (place : Place) (chain : Chain) (pieces : List Piece) (readable : ℕ) (reply : List ℕ)
-    (len : ℕ) : Type 0 where
+-- from it holds just these pieces, of which so many are readable, the chain's writable buffers begin with the reply,
+-- and the used element that was written last names its head and a length
+pub record HoldsAnswer (mem : List ℕ) (place : Place) (chain : Chain) (pieces : List Piece) (readable : ℕ)
+    (reply : List ℕ) (len : ℕ) : Type 0 where
   pub in_last_slot : last_available_head mem place ≡ chain.head
   pub is_chain : chain_of mem place chain.head ≡ Ok chain
   pub walk : List ℕ

@@ -38,11 +38,11 @@ pub fn rounds_keep_agreement(driver: &DriverEnd)
     let _ = driver.free_len();
 }
 
-/// After a round in which the device wrote a reply into the chain's writable pieces, the queue holds both: the slot that
-/// was filled last has the head of the chain that was posted, whose readable part is the command still. The longest walk
-/// from that head holds just the pieces that were posted, in order, each readable or writable as it was. The writable
-/// buffers begin with the reply, and the used element that was written last names the head and the length. The writable
-/// pieces share no byte with the readable ones, nor with one another.
+/// After a round in which the device wrote a reply into the chain's writable pieces, the queue holds both: the slot
+/// that was filled last has the head of the chain that was posted, whose readable part is the command still. The
+/// longest walk from that head holds just the pieces that were posted, in order, each readable or writable as it was.
+/// The writable buffers begin with the reply, and the used element that was written last names the head and the length.
+/// The writable pieces share no byte with the readable ones, nor with one another.
 pub fn rounds_leave_the_answer(driver: &DriverEnd)
     ensures { (device : DeviceEndState) (round : Round) (reply : List ℕ) → IsReplyRound driver.now device round reply
         → let chain = chain_of_pieces round.at_post round.head round.pieces round.readable in

@@ -1,5 +1,5 @@
 //! The driver's end of a queue.
-ghost use Rattle.std.specs.Prelude.{◌≡◌, ℕ, ◌+◌, ◌^◌, ◌<◌, ◌≤◌, Some, None, All, Contains, length, replicate, reverse, slice_index, IfOk, IfErr, IfSome, OnOk, OnErr, MatchOption};
+ghost use Rattle.std.specs.Prelude.{◌≡◌, ℕ, ◌+◌, ◌^◌, ◌<◌, ◌≤◌, Some, None, All, Contains, length, replicate, IfOk, IfErr, IfSome, OnOk, OnErr, MatchOption};
 ghost use Rattle.guest_mem.specs.Memory.{ChangesOnly};
 ghost use Rattle.split_queue.specs.Agreement.{Agree, ArePostable, chain_of_pieces};
 ghost use Rattle.split_queue.specs.DeviceEnds.{DeviceEndState, device_start, pop_answer};

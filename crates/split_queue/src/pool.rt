@@ -1,5 +1,5 @@
 //! The descriptors of a driver's table: which are free, and which are out in which chain.
-ghost use Rattle.std.specs.Prelude.{◌≡◌, ◌+◌, ◌^◌, ◌<◌, ◌≤◌, ◌⊎◌, ◌∷◌, ◌++◌, [], List, ℕ, Some, None, true, replicate, map, length, take, drop, reverse, slice_index, slice_set, vec_capacity, if◌then◌else◌, IsSome, IfOk, IfSome};
+ghost use Rattle.std.specs.Prelude.{◌≡◌, ◌+◌, ◌^◌, ◌<◌, ◌≤◌, ◌⊎◌, ◌∷◌, ◌++◌, [], Some, None, replicate, map, length, take, drop, slice_set, vec_capacity, if◌then◌else◌, IsSome, IfOk, IfSome};
 ghost use Rattle.std.specs.List.Sorted.{IsPermutation, IsNonDecreasing};
 ghost use Rattle.split_queue.specs.Pools.{owner_of, first_free, is_chain_head, owner_after_release, after_release, out_count, AreFree, HeadsAreOut, HasLinkedChain, AreOut, IsPool};
 

@@ -1,10 +1,9 @@
 -- One more command on the side that carries commands out.
-use Rattle.std.proofs.Common.{◌≡◌, ℕ, ◌+◌, ◌<◌, ◌≤◌, List, [], ◌∷◌, ◌++◌, length, get_or, map, take, vec_capacity, refl, sym, ap, subst, ◌∙◌, length-append, arith}
-use Rattle.std.proofs.lemmas.List.{map-append, take-append-le, take_all}
+use Rattle.std.proofs.Common.{◌≡◌, ℕ, ◌+◌, ◌<◌, ◌≤◌, List, [], ◌∷◌, ◌++◌, length, get_or, take, vec_capacity, sym, ap, subst, ◌∙◌, length-append, arith}
+use Rattle.std.proofs.lemmas.List.{map-append, take-append-le}
 use Rattle.arrayvec.specs.ArrayVec.{ArrayVec}
-use Rattle.cap_table.specs.States.{DeviceState}
 use Rattle.snapshots.specs.Ends.{EndState, with_list}
-use Rattle.steer.specs.AdminSides.{HasRunTo, HasCarriedOut}
+use Rattle.steer.specs.AdminSides.{HasCarriedOut}
 use Rattle.steer.specs.LiveCommands.{IsAnswered, state_left, changes_made_by}
 use Rattle.steer.specs.LiveSteps.{HasRun}
 use Rattle.steer.specs.Results.{replies_in}

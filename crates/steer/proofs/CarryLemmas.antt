@@ -1,5 +1,5 @@
 -- One command on the side that carries commands out: how it is answered, and what is known behind it.
-use Rattle.std.proofs.Common.{◌≡◌, ℕ, zero, suc, ◌+◌, ◌<◌, ◌≤◌, Bool, true, false, cond, ltb, List, [], ◌∷◌, ◌++◌, length, get_or, map, take, Some, None, refl, sym, ap, subst, ◌∙◌, arith, ⊎_elim}
+use Rattle.std.proofs.Common.{◌≡◌, ℕ, ◌+◌, ◌<◌, ◌≤◌, true, false, cond, List, [], ◌∷◌, ◌++◌, length, get_or, take, Some, None, refl, sym, ap, subst, ◌∙◌, arith, ⊎_elim}
 use Rattle.std.specs.Prelude.{MatchBool}
 use Rattle.std.proofs.lemmas.Bool.{cases_lt, lt-ltb, le-ltb}
 use Rattle.std.proofs.lemmas.List.{take_more, take_all}
@@ -9,7 +9,6 @@ use Rattle.cap_table.specs.Answers.{answer_of, verdict_of, bare_reply}
 use Rattle.cap_table.specs.States.{DeviceState}
 use Rattle.cap_table.specs.Statuses.{no_memory}
 use Rattle.cap_table.specs.Steps.{reply_of, effect_of, effect_in, next_state}
-use Rattle.cap_table.specs.declared.answer.Effect.{Effect}
 use Rattle.cap_table.specs.declared.answer.Effect.TheVariants as effects
 use Rattle.steer.specs.LiveCommands.{no_memory_reply, is_no_memory, changes_of, changes_made_by, state_left, IsAnswered, state_behind, changes_made}
 use Rattle.steer.specs.LiveSteps.{HasRun}

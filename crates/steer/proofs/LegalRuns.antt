@@ -1,6 +1,6 @@
 -- There is a legal run of any commands over any frames: that of one thread, which makes all commands first and whose
 -- memory never runs out.
-use Rattle.std.proofs.Common.{◌≡◌, ℕ, zero, suc, ◌%◌, ◌<◌, ◌≤◌, List, [], ◌∷◌, length, map, take, Some, None, refl, sym, ap, subst, ◌∙◌, arith}
+use Rattle.std.proofs.Common.{◌≡◌, ℕ, zero, suc, ◌≤◌, List, [], ◌∷◌, length, map, Some, refl, sym, ap, subst, arith}
 use Rattle.std.specs.Prelude.{slice_get, MatchBool}
 use Rattle.std.specs.List.{AllZip}
 use Rattle.ff_headers.specs.Changes.{after}
@@ -13,7 +13,7 @@ use Rattle.cap_table.specs.States.{DeviceState, start_state}
 use Rattle.cap_table.specs.Steps.{reply_of, next_state, effect_of}
 use Rattle.cap_table.specs.declared.answer.Effect.TheVariants as effects
 use Rattle.cap_table.specs.declared.start.Start.{Start}
-use Rattle.steer.specs.LiveCommands.{is_no_memory, state_left, IsAnswered, AreAnswered, changes_made}
+use Rattle.steer.specs.LiveCommands.{state_left, IsAnswered, AreAnswered, changes_made}
 use Rattle.steer.specs.LiveRuns.{PacketLine, IsPacketLine, IsLiveRun, accepted_changes}
 use Rattle.steer.specs.declared.admin_line.AdminLine.{AdminLine}
 use Rattle.steer.proofs.LiveCommandLemmas.{fewer_made, machine_has_memory}

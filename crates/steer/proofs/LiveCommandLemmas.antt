@@ -1,12 +1,11 @@
 -- Commands that are carried out while workers read: what one more leaves, and what the first of them made.
-use Rattle.std.proofs.Common.{◌≡◌, ℕ, zero, suc, ◌+◌, ◌<◌, ◌≤◌, Bool, true, false, cond, List, [], ◌∷◌, ◌++◌, length, get_or, take, Some, None, refl, sym, ap, subst, ◌∙◌, append_assoc, append-nil, length-append, arith}
-use Rattle.std.proofs.lemmas.List.{take_more}
+use Rattle.std.proofs.Common.{◌≡◌, ℕ, zero, suc, ◌+◌, ◌≤◌, Bool, true, false, List, [], ◌∷◌, ◌++◌, length, take, refl, sym, ap, ◌∙◌, append_assoc, append-nil, length-append, arith}
 use Rattle.std.proofs.lemmas.Slice.Eq.{bytes_eq-Decides}
 use Rattle.byte_numbers.specs.Numbers.{le16_at}
 use Rattle.admin_wire.specs.Replies.{whole_reply}
 use Rattle.cap_table.specs.States.{DeviceState}
 use Rattle.cap_table.specs.Statuses.{no_memory}
-use Rattle.cap_table.specs.Steps.{reply_of, next_state, status_of}
+use Rattle.cap_table.specs.Steps.{reply_of, status_of}
 use Rattle.cap_table.proofs.EveryAnswer.{never_no_memory}
 use Rattle.steer.specs.LiveCommands.{no_memory_reply, is_no_memory, changes_made_by, state_left, IsAnswered, AreAnswered, state_behind, changes_made}
 use Rattle.steer.specs.declared.admin_line.AdminLine.{AdminLine}

@@ -1,6 +1,6 @@
 -- A live run at a worked example: a group, a classifier and a rule are created, and the rule sends the frames that match it
 -- to queue 1.
-use Rattle.std.proofs.Common.{◌≡◌, ℕ, ◌≤◌, ◌<◌, List, [], ◌∷◌, length, codes, refl, arith}
+use Rattle.std.proofs.Common.{◌≡◌, ℕ, List, [], ◌∷◌, length, codes, refl, arith}
 use Rattle.vnff_base.specs.Hex.{pair_bytes}
 use Rattle.ff_headers.specs.Shapes.{shape_fault}
 use Rattle.ff_headers.specs.Matching.{fits, matches}
@@ -18,11 +18,11 @@ use Rattle.admin_wire.specs.Wire.{data_of, command_of}
 use Rattle.admin_wire.specs.Replies.{whole_reply}
 use Rattle.cap_table.specs.Answers.{answer_of, verdict_of}
 use Rattle.cap_table.specs.Caps.{CapsParts, all_selectors}
-use Rattle.cap_table.specs.States.{DeviceState, start_state}
+use Rattle.cap_table.specs.States.{start_state}
 use Rattle.cap_table.specs.declared.start.Start.TheVariants.{Ready}
 use Rattle.std.specs.List.{AllZip}
 use Rattle.steer.specs.LiveCommands.{no_memory_reply, is_no_memory, changes_made_by, state_left, IsAnswered, AreAnswered, state_behind, changes_made}
-use Rattle.steer.specs.LiveRuns.{PacketLine, IsPacketLine, accepted_changes, told_changes}
+use Rattle.steer.specs.LiveRuns.{IsPacketLine, accepted_changes, told_changes}
 use Rattle.steer.specs.declared.admin_line.AdminLine.{AdminLine}
 
 caps : CapsParts

@@ -1,26 +1,25 @@
 -- The phases of a live run, put together.
-use Rattle.std.proofs.Common.{◌≡◌, ℕ, zero, suc, ◌+◌, ◌/◌, ◌%◌, ◌^◌, ◌<◌, ◌≤◌, List, [], ◌∷◌, ◌++◌, length, get_or, take, drop, Bool, false, Some, Result, Ok, Err, refl, sym, ap, subst, ◌∙◌, append-nil, zero-add, arith}
+use Rattle.std.proofs.Common.{◌≡◌, ℕ, ◌+◌, ◌/◌, ◌%◌, ◌^◌, ◌<◌, ◌≤◌, List, [], ◌∷◌, ◌++◌, length, get_or, take, drop, false, Some, Result, Ok, Err, refl, sym, ap, subst, ◌∙◌, append-nil, zero-add, arith}
 use Rattle.std.specs.Prelude.{All, OnOk, is_err, slice_get}
 use Rattle.std.proofs.Math.ListN.{drop_of_length-le}
 use Rattle.std.proofs.Math.Seq.{take-length}
 use Rattle.std.proofs.lemmas.List.{take-map, take_all}
-use Rattle.std.proofs.lemmas.Option.{slice_get_within, get_or_from_slice_get, slice_get-get_or}
+use Rattle.std.proofs.lemmas.Option.{slice_get_within, get_or_from_slice_get}
 use Rattle.arrayvec.specs.ArrayVec.{ArrayVec}
 use Rattle.ff_headers.specs.Changes.{change_count}
 use Rattle.ff_headers.specs.declared.change.Change.{Change}
 use Rattle.ff_headers.specs.declared.change.Change.TheVariants.{Close}
-use Rattle.ff_headers.specs.declared.limits.Limits.{Limits}
 use Rattle.cap_table.specs.Caps.{CapsParts}
 use Rattle.cap_table.specs.States.{DeviceState, start_state}
 use Rattle.cap_table.specs.declared.start.Start.{Start}
 use Rattle.snapshots.specs.Ends.{EndState}
 use Rattle.snapshots.specs.Fresh.{IsFresh}
-use Rattle.snapshots.specs.Workers.{WorkerState, Logged}
-use Rattle.steer.specs.AdminSides.{HasRunTo, HasCarriedOut}
-use Rattle.steer.specs.LiveCommands.{AreAnswered, state_behind, changes_made}
+use Rattle.snapshots.specs.Workers.{WorkerState}
+use Rattle.steer.specs.AdminSides.{HasRunTo}
+use Rattle.steer.specs.LiveCommands.{state_behind, changes_made}
 use Rattle.steer.specs.LivePhases.{IsReady, IsOpened, HasBeenLive, HasClosed}
 use Rattle.steer.specs.LiveRuns.{IsLiveRun, accepted_changes, told_changes}
-use Rattle.steer.specs.LiveSteps.{HasRun, HasLearned, HasReadOn, HasReadLast, HaveTurned, HasKept, HaveRoom, HaveRead}
+use Rattle.steer.specs.LiveSteps.{HasRun, HasLearned, HasReadOn, HasReadLast, HaveTurned, HasKept, HaveRoom}
 use Rattle.steer.specs.Results.{replies_in, log_at, read_of, packet_lines, HasRead}
 use Rattle.steer.specs.Shares.{share_len, share}
 use Rattle.steer.specs.declared.admin_line.AdminLine.{AdminLine}

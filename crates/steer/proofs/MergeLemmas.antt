@@ -1,5 +1,5 @@
 -- What workers have read and commands have left, put together: a legal run.
-use Rattle.std.proofs.Common.{◌≡◌, ℕ, zero, suc, ◌+◌, ◌-◌, ◌*◌, ◌/◌, ◌%◌, ◌^◌, ◌<◌, ◌≤◌, Bool, false, List, [], ◌∷◌, ◌++◌, length, get_or, map, take, Some, None, refl, sym, ap, subst, ◌∙◌, append-nil, length-append, arith, ⊎_elim}
+use Rattle.std.proofs.Common.{◌≡◌, ℕ, zero, suc, ◌+◌, ◌-◌, ◌/◌, ◌%◌, ◌^◌, ◌<◌, ◌≤◌, false, List, [], ◌∷◌, ◌++◌, length, get_or, Some, None, refl, sym, ap, subst, ◌∙◌, append-nil, length-append, arith, ⊎_elim}
 use Rattle.std.specs.Prelude.{All, slice_get}
 use Rattle.std.specs.List.{AllZip, Contains, list_any}
 use Rattle.std.specs.Option.{option_map_or}
@@ -7,7 +7,7 @@ use Rattle.std.proofs.Math.Nat.{mod-lt, mul-le-mul_right}
 use Rattle.std.proofs.Math.ListN.{get_or-append}
 use Rattle.std.proofs.lemmas.Nat.{div-add-mod'}
 use Rattle.std.proofs.lemmas.Bool.{cases_lt}
-use Rattle.std.proofs.lemmas.List.Elements.{All-nil, All-contains, All-get_or, Contains-push, Contains-append_left}
+use Rattle.std.proofs.lemmas.List.Elements.{All-nil, All-contains, Contains-push, Contains-append_left}
 use Rattle.std.proofs.lemmas.List.FromFn.{length-map-range_with_len, get_or-map-range_with_len}
 use Rattle.std.proofs.lemmas.Option.{same_Some, slice_get-get_or, slice_get_within, get_or_from_slice_get}
 use Rattle.ff_headers.specs.Changes.{after, change_count, is_close}
@@ -22,9 +22,9 @@ use Rattle.cap_table.specs.declared.start.Start.{Start}
 use Rattle.snapshots.specs.Lists.{Covers}
 use Rattle.snapshots.specs.Workers.{WorkerState, Logged, IsLogged, first_floor}
 use Rattle.snapshots.specs.declared.seen.Seen.{Seen}
-use Rattle.steer.specs.LiveCommands.{AreAnswered, changes_made}
+use Rattle.steer.specs.LiveCommands.{AreAnswered}
 use Rattle.steer.specs.LiveRuns.{PacketLine, IsPacketLine, IsLiveRun, accepted_changes, told_changes}
-use Rattle.steer.specs.LiveSteps.{HasEntered, HasFloor, SeesAtLeast, HasReadOn, HasLearned, HasReadLast}
+use Rattle.steer.specs.LiveSteps.{HasFloor, SeesAtLeast, HasReadOn, HasLearned, HasReadLast}
 use Rattle.steer.specs.Results.{log_at, no_read, read_of, line_of, packet_lines}
 use Rattle.steer.specs.Shares.{share_len, share}
 use Rattle.steer.specs.declared.admin_line.AdminLine.{AdminLine}

@@ -1,17 +1,16 @@
 -- The reads of one worker: one read, and several one after another.
-use Rattle.std.proofs.Common.{◌≡◌, ℕ, zero, suc, ◌+◌, ◌-◌, ◌^◌, ◌<◌, ◌≤◌, Bool, true, false, cond, ltb, List, [], ◌∷◌, ◌++◌, length, get_or, min, refl, sym, ap, subst, ◌∙◌, append_assoc, append-nil, length-append, arith}
+use Rattle.std.proofs.Common.{◌≡◌, ℕ, ◌+◌, ◌-◌, ◌^◌, ◌<◌, ◌≤◌, true, false, cond, List, [], ◌∷◌, ◌++◌, length, refl, sym, ap, subst, ◌∙◌, append_assoc, append-nil, length-append, arith}
 use Rattle.std.specs.Prelude.{All, Option, None, Some, IsSome, MatchOption, is_some, not, slice_get}
-use Rattle.std.specs.List.{Contains}
 use mathlib.Core.List.{IsPrefix}
 use Rattle.std.proofs.lemmas.Bool.{lt-ltb}
 use Rattle.std.proofs.lemmas.List.Sums.{sum_by-append}
-use Rattle.std.proofs.lemmas.List.Elements.{All-contains, All-push, All-head, Contains-push, Contains-append_left}
+use Rattle.std.proofs.lemmas.List.Elements.{All-contains, All-push, All-head}
 use Rattle.ff_headers.specs.Changes.{change_count, saturated, is_close}
 use Rattle.ff_headers.specs.Frames.{HeaderBytes, headers_of}
 use Rattle.ff_headers.specs.declared.change.Change.{Change}
 use Rattle.ff_headers.specs.declared.limits.Limits.{Limits}
 use Rattle.snapshots.specs.Lists.{Covers}
-use Rattle.snapshots.specs.Reads.{IsRead, seen_after}
+use Rattle.snapshots.specs.Reads.{IsRead}
 use Rattle.snapshots.specs.Workers.{WorkerState, Logged, IsLogged, first_floor, log_after}
 use Rattle.snapshots.specs.declared.seen.Seen.{Seen}
 use Rattle.steer.specs.LiveSteps.{HasEntered, HasFloor, SeesAtLeast, HasNotRead, HasReadOn}

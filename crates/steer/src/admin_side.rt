@@ -1,6 +1,6 @@
 //! The side of a live run that carries commands out.
 
-ghost use Rattle.std.specs.Prelude.{◌≡◌, ◌+◌, ◌-◌, ◌<◌, ◌≤◌, ◌^◌, ◌++◌, length, vec_capacity, false, MatchBool};
+ghost use Rattle.std.specs.Prelude.{◌≡◌, ◌+◌, ◌-◌, ◌<◌, ◌≤◌, ◌++◌, length, vec_capacity, false, MatchBool};
 ghost use Rattle.ff_headers.specs.Changes.{is_close};
 ghost use Rattle.ff_headers.specs.declared.change.Change.{Change};
 ghost use Rattle.cap_table.specs.declared.answer.Effect.TheVariants as effects;

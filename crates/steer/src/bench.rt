@@ -1,5 +1,5 @@
 //! A device whose commands come through a ring, with the tables that its frames are searched in.
-ghost use Rattle.std.specs.Prelude.{◌≡◌, ℕ, ◌+◌, ◌<◌, ◌≤◌, length, IfOk};
+ghost use Rattle.std.specs.Prelude.{◌≡◌, ℕ, ◌<◌, ◌≤◌, length, IfOk};
 ghost use Rattle.ff_headers.specs.Frames.{headers_of};
 ghost use Rattle.ff_headers.specs.Places.{action_of};
 ghost use Rattle.ff_headers.specs.declared.rule.Action.TheVariants as actions;

@@ -1,6 +1,6 @@
 //! Workers, each on a thread of its own, beside the thread that carries commands out.
 
-ghost use Rattle.std.specs.Prelude.{◌≡◌, ℕ, ◌+◌, ◌-◌, ◌^◌, ◌<◌, ◌≤◌, length, vec_capacity};
+ghost use Rattle.std.specs.Prelude.{◌≡◌, ◌+◌, ◌-◌, ◌^◌, ◌<◌, ◌≤◌, length, vec_capacity};
 ghost use Rattle.std.specs.Thread.{IsSync};
 ghost use Rattle.steer.specs.AdminSides.{HasCarriedOut};
 ghost use Rattle.steer.specs.LiveSteps.{HasReadOn, HaveRead, HaveRoom};

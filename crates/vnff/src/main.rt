@@ -1,7 +1,9 @@
-//! The program: its words, real files, standard output and threads, given to the call that does everything. It may wait.
+//! The program: its words, real files, standard output and threads, given to the call that does everything. It may
+//! wait.
 //!
 //! Nothing is decided here but what the system's own answers mean: a word that isn't UTF-8 is a faulty command line,
-//! and without memory for the words or the sinks the program ends as wherever memory runs out. No gate holds a live run.
+//! and without memory for the words or the sinks the program ends as wherever memory runs out. No gate holds a live
+//! run.
 #![tactic(auto)]
 
 ghost use Rattle.std.specs.Prelude.{◌≡◌, ◌≤◌, ◌⊎◌, IfErr, IfOk};
@@ -33,8 +35,8 @@ fn words<R: Env + AllocGlobal>(rt: &R) -> Result<Vec<String>, u8>
 }
 
 /// Runs the program over real files and standard output, and gives its exit status. The frames of queue Q go to the
-/// file `rx-Q.pcap`, which is made or emptied when the first of its bytes is written. The workers of a live run get their
-/// threads from `threads`.
+/// file `rx-Q.pcap`, which is made or emptied when the first of its bytes is written. The workers of a live run get
+/// their threads from `threads`.
 fn run<T: Threads + Wait + Sync>(rt: &HostRuntime, threads: &T) -> Result<u8, AllocError>
     ensures { IfOk result (λ status. status ≤ 5) }
 {

@@ -6,6 +6,10 @@ use Rattle.vnff_base.specs.Counts.{Rose}
 abbrev pub Files : Type 0
 Files = List ℕ → Option (List ℕ)
 
+-- the most bytes of a file that are read: 64 MiB; this project's own
+abbrev pub file_limit : ℕ
+file_limit = 67108864
+
 -- What contracts see of a shelf: its files, where it tells them, how often it failed, and how many bytes it gave.
 pub record ShelfState : Type 0 where
   pub files : Option Files

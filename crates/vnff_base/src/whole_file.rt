@@ -1,13 +1,16 @@
 //! A whole file, read from a shelf.
 
-ghost use Rattle.std.specs.Prelude.{◌≡◌, ℕ, ◌+◌, ◌<◌, ◌≤◌, length, IfOk, IsErrOf};
+ghost use Rattle.std.specs.Prelude.{◌≡◌, ◌+◌, ◌<◌, ◌≤◌, length, IfOk, IsErrOf};
 ghost use Rattle.vnff_base.specs.Counts.{count_after};
 ghost use Rattle.vnff_base.specs.Reads.{OfFile};
-ghost use Rattle.vnff_base.specs.Shelves.{HasCause};
+ghost use Rattle.vnff_base.specs.Shelves.{HasCause, file_limit};
 
 use crate::shelf::Shelf;
 use std::alloc::{AllocError, Global};
 use thiserror::Error;
+
+/// The most bytes of a file that are read: 64 MiB.
+pub const FILE_LIMIT: u64 = 67_108_864;
 
 /// How many bytes are asked of the shelf at once.
 const PIECE: usize = 65_536;
@@ -27,14 +30,14 @@ pub enum ReadErr {
 }
 
 /// Reads the file of that name from its first byte to its end, at most `limit` bytes of it. The limit is
-/// 64 MiB at most.
+/// [`FILE_LIMIT`] at most.
 pub fn read_all<S: Shelf>(
     alloc: Global,
     shelf: &mut S,
     name: &str,
     limit: u64,
 ) -> Result<Vec<u8>, ReadErr>
-    requires { limit ≤ 67108864 }
+    requires { limit ≤ file_limit }
     ensures bytes { IfOk result (λ v. OfFile (S.state shelf.old) name.now (λ file. file ≡ v.items)) }
     ensures within { IfOk result (λ v. length v.items ≤ limit) }
     ensures fault { IsErrOf result ReadErr.ReadFault

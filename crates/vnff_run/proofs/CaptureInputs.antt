@@ -1,5 +1,5 @@
 -- Reading a capture that is a file: what the reader answers is what the files give.
-use Rattle.std.proofs.Common.{◌≡◌, ◌<◌, ◌≤◌, ℕ, List, Option, Some, None, Ok, Err, All, length, refl, sym, ap, ◌∙◌, inl, inr, ⊎_elim}
+use Rattle.std.proofs.Common.{◌≡◌, ◌<◌, ◌≤◌, ℕ, List, Option, Some, None, Ok, Err, All, length, refl, ap, ◌∙◌, inl, inr, ⊎_elim}
 use Rattle.std.specs.Prelude.{IsErrOf, IsSomeAnd}
 use Rattle.std.proofs.lemmas.Bool.{cond-false, cond-true, le-ltb, lt-ltb}
 use Rattle.std.proofs.lemmas.Option.{IfSome_then}
@@ -10,9 +10,9 @@ use Rattle.capture.specs.declared.error.CaptureReadErr.{CaptureReadErr}
 use Rattle.capture.specs.declared.error.CaptureReadErr.TheVariants as reads
 use Rattle.capture.proofs.CaptureLaws.{capture-short, capture_of-is}
 use Rattle.vnff_base.specs.Reads.{OfFile}
-use Rattle.vnff_base.specs.Shelves.{HasCause, ShelfState}
+use Rattle.vnff_base.specs.Shelves.{HasCause, ShelfState, file_limit}
 use Rattle.vnff_run.specs.Endings.{ReadStops, ReadsInput}
-use Rattle.vnff_run.specs.Inputs.{Refused, bytes_or_fault, file_limit}
+use Rattle.vnff_run.specs.Inputs.{Refused, bytes_or_fault}
 use Rattle.vnff_run.specs.Programs.{capture_stop}
 use Rattle.vnff_run.specs.Results.{◌>>=◌}
 use Rattle.vnff_run.specs.TableInputs.{frames_in, frames_or_refusal}

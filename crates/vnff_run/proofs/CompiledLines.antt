@@ -16,9 +16,9 @@ use Rattle.ntuple_text.specs.declared.spec.Spec.{Spec}
 use Rattle.ntuple_compile.specs.SpecFits.{specs_of}
 use Rattle.vnff_base.specs.Hex.{hex_text}
 use Rattle.vnff_base.specs.Outputs.{OutputState, Writes}
+use Rattle.ntuple_text.specs.SpecTexts.{line_feed}
 use Rattle.vnff_run.specs.CompileTexts.{command_line, comment_line}
 use Rattle.vnff_run.specs.Programs.{device_numbers, selector_line, slot_line, spaced_number}
-use Rattle.vnff_run.specs.Replay.{line_feed}
 use Rattle.vnff_run.specs.ScriptTexts.{device_words, is_selector, item_words, line_text, select_words, selector_lines}
 use Rattle.vnff_run.specs.SelectLines.{kind_word, mode_word}
 

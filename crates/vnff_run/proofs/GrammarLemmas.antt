@@ -6,7 +6,7 @@ use Rattle.std.proofs.lemmas.List.Elements.{All-weaker, All-same, All-nil, All-h
 use Rattle.vnff_base.specs.Lines.{NumberedLine, UnreadLines, unread_from, numbered_from}
 use Rattle.vnff_base.specs.declared.text.Line.{Line}
 use Rattle.vnff_base.proofs.TextLaws.{numbered_from-numbers, length-lines-le}
-use Rattle.vnff_run.specs.Inputs.{file_limit}
+use Rattle.vnff_base.specs.Shelves.{file_limit}
 use Rattle.vnff_run.specs.Readings.{HasSmallNumbers, IsFaultOf, lines_from, numbered_words}
 use Rattle.vnff_run.specs.Results.{◌>>=◌}
 use Rattle.vnff_run.specs.Grammar.{at_line, items_of}

@@ -8,7 +8,7 @@ use Rattle.split_queue.specs.declared.queue_place.Place.{Place}
 use Rattle.split_queue.specs.declared.setup.SetupErr.{SetupErr}
 use Rattle.vnff_base.specs.Shelves.{Files, ShelfState}
 use Rattle.vnff_run.specs.Endings.{ReadStops, ReadsInput, script_stop}
-use Rattle.vnff_run.specs.Inputs.{InputFault, bytes_in, queue_in, queue_or_refusal, script_in, script_or_refusal}
+use Rattle.vnff_run.specs.Inputs.{InputFault, file_bytes, queue_in, queue_or_refusal, script_in, script_or_refusal}
 use Rattle.vnff_run.specs.Readings.{IsFaultOf}
 use Rattle.vnff_run.specs.Results.{◌>>=◌}
 use Rattle.vnff_run.specs.Grammar.{script_of}
@@ -36,26 +36,26 @@ read_stops shelf shelf_new part next stops.SinkFault why = why
 read_stops shelf shelf_new part next stops.Memory why = why
 
 -- the bytes of a file are a script
-pub script_read : (shelf shelf_new : ShelfState) (name bytes text : List ℕ) (script : Script) → ReadsInput shelf shelf_new (bytes_in kinds.Script name) (Ok bytes) → text ≡ bytes → script_of text ≡ Ok script → ReadsInput shelf shelf_new (script_in name) (Ok script)
+pub script_read : (shelf shelf_new : ShelfState) (name bytes text : List ℕ) (script : Script) → ReadsInput shelf shelf_new (file_bytes kinds.Script name) (Ok bytes) → text ≡ bytes → script_of text ≡ Ok script → ReadsInput shelf shelf_new (script_in name) (Ok script)
 unfolding script_in
 script_read shelf shelf_new name bytes text script read same is =
     (read.0, IfSome_then shelf.files read.1 (λ files is_there. ap (λ p. p >>= λ b. script_or_refusal (script_of b)) (is_there ∙ ap Ok (sym same)) ∙ ap script_or_refusal is))
 
 -- or they are refused, or memory runs out
-pub script_stops : (shelf shelf_new : ShelfState) (name bytes text : List ℕ) (fault : ScriptFault) → ReadsInput shelf shelf_new (bytes_in kinds.Script name) (Ok bytes) → text ≡ bytes → IsFaultOf (script_of text) fault → ReadStops shelf shelf_new (script_in name) (script_stop fault)
+pub script_stops : (shelf shelf_new : ShelfState) (name bytes text : List ℕ) (fault : ScriptFault) → ReadsInput shelf shelf_new (file_bytes kinds.Script name) (Ok bytes) → text ≡ bytes → IsFaultOf (script_of text) fault → ReadStops shelf shelf_new (script_in name) (script_stop fault)
 unfolding script_in
 script_stops shelf shelf_new name bytes text (faults.Bad line reason) read same is =
     (read.0, IfSome_then shelf.files read.1 (λ files is_there. ap (λ p. p >>= λ b. script_or_refusal (script_of b)) (is_there ∙ ap Ok (sym same)) ∙ ap script_or_refusal is))
 script_stops shelf shelf_new name bytes text faults.Memory read same is = read.0
 
 -- the bytes of a file are an image in which a queue can lie
-pub queue_read : (shelf shelf_new : ShelfState) (name bytes image : List ℕ) (place : Place) → ReadsInput shelf shelf_new (bytes_in kinds.Image name) (Ok bytes) → image ≡ bytes → setup_fault place (length image) ≡ None → ReadsInput shelf shelf_new (queue_in name place) (Ok (image, device_start place (length image) 0))
+pub queue_read : (shelf shelf_new : ShelfState) (name bytes image : List ℕ) (place : Place) → ReadsInput shelf shelf_new (file_bytes kinds.Image name) (Ok bytes) → image ≡ bytes → setup_fault place (length image) ≡ None → ReadsInput shelf shelf_new (queue_in name place) (Ok (image, device_start place (length image) 0))
 unfolding queue_in
 queue_read shelf shelf_new name bytes image place read same none =
     (read.0, IfSome_then shelf.files read.1 (λ files is_there. ap (λ p. p >>= queue_or_refusal place) (is_there ∙ ap Ok (sym same)) ∙ rw (queue_or_refusal, none) refl))
 
 -- or they are refused
-pub queue_stops : (shelf shelf_new : ShelfState) (name bytes image : List ℕ) (place : Place) (fault : SetupErr) → ReadsInput shelf shelf_new (bytes_in kinds.Image name) (Ok bytes) → image ≡ bytes → setup_fault place (length image) ≡ Some fault → ReadStops shelf shelf_new (queue_in name place) (stops.Refused (BadImage fault))
+pub queue_stops : (shelf shelf_new : ShelfState) (name bytes image : List ℕ) (place : Place) (fault : SetupErr) → ReadsInput shelf shelf_new (file_bytes kinds.Image name) (Ok bytes) → image ≡ bytes → setup_fault place (length image) ≡ Some fault → ReadStops shelf shelf_new (queue_in name place) (stops.Refused (BadImage fault))
 unfolding queue_in
 queue_stops shelf shelf_new name bytes image place fault read same is =
     (read.0, IfSome_then shelf.files read.1 (λ files is_there. ap (λ p. p >>= queue_or_refusal place) (is_there ∙ ap Ok (sym same)) ∙ rw (queue_or_refusal, is) refl))

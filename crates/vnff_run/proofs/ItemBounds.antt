@@ -14,9 +14,11 @@ use Rattle.vnff_base.proofs.TextLaws.{length-lines-le}
 use Rattle.vnff_base.specs.Hex.{hex_bytes}
 use Rattle.vnff_base.specs.Lines.{NumberedLine, UnreadLines, is_skipped, numbered_from, unread_from, words_of}
 use Rattle.vnff_base.specs.Numbers.{number_of}
+use Rattle.capture.specs.Sizes.{longest_frame}
+use Rattle.steer.specs.BenchPlaces.{most_command, most_room}
 use Rattle.vnff_run.specs.DeviceLines.{device_of, is_version}
-use Rattle.vnff_run.specs.Grammar.{after_version, at_line, device_in, items_of, script_of_lines, selectors_in, with_selectors}
-use Rattle.vnff_run.specs.ItemLines.{IsWithin, admin_of, frame_of, item_of, most_command, most_frame, most_room}
+use Rattle.vnff_run.specs.Grammar.{after_version, at_line, device_in, items_of, script_of_lines, selectors_in, caps_with_selectors}
+use Rattle.vnff_run.specs.ItemLines.{IsWithin, admin_of, frame_of, item_of}
 use Rattle.vnff_run.specs.Readings.{IsFaultOf}
 use Rattle.vnff_run.specs.Results.{◌>>=◌}
 use Rattle.vnff_run.specs.SelectLines.{is_select, selector_of}
@@ -81,9 +83,9 @@ frame_within : (words : List (List ℕ)) (item : Item) → frame_of words ≡ Ok
 unfolding frame_of
 frame_within [] item is = absurd (cc)
 frame_within (hex ∷ []) item is =
-    let bytes = both_done (bytes_within Hex 0 most_frame hex) _ item is in
+    let bytes = both_done (bytes_within Hex 0 longest_frame hex) _ item is in
     let same : Frame bytes.0 ≡ item = cc in
-    subst IsWithin same (bytes_bounds Hex 0 most_frame hex bytes.0 bytes.1).1
+    subst IsWithin same (bytes_bounds Hex 0 longest_frame hex bytes.0 bytes.1).1
 frame_within (hex ∷ more ∷ words) item is = absurd (cc)
 
 either_within : (first second : Bool) (admin frame fault : Result Item Reason) (item : Item) → (admin ≡ Ok item → IsWithin item) → (frame ≡ Ok item → IsWithin item) → fault ≢ Ok item → (if first then admin else if second then frame else fault) ≡ Ok item → IsWithin item
@@ -120,7 +122,7 @@ script_within missing lines script is =
     let device = both_done (device_in missing behind.0) _ script behind.2 in
     let selected = both_done (selectors_in 0 device.0.1) _ script device.2 in
     let items = both_done (items_of selected.0.1) _ script selected.2 in
-    let same : record { caps = with_selectors device.0.0.caps selected.0.0; start = device.0.0.start; items = items.0 } ≡ script = cc in
+    let same : record { caps = caps_with_selectors device.0.0.caps selected.0.0; start = device.0.0.start; items = items.0 } ≡ script = cc in
     subst (λ (s : Script). All IsWithin s.items) same (items_within selected.0.1 items.0 items.1)
 
 -- and of what a reader of lines gives
@@ -185,7 +187,7 @@ script_few missing lines script is =
     let device = both_done (device_in missing behind.0) _ script behind.2 in
     let selected = both_done (selectors_in 0 device.0.1) _ script device.2 in
     let items = both_done (items_of selected.0.1) _ script selected.2 in
-    let same : record { caps = with_selectors device.0.0.caps selected.0.0; start = device.0.0.start; items = items.0 } ≡ script = cc in
+    let same : record { caps = caps_with_selectors device.0.0.caps selected.0.0; start = device.0.0.start; items = items.0 } ≡ script = cc in
     subst (λ (s : Script). length s.items ≤ length lines) same
     (omega (arith, items_count selected.0.1 items.0 items.1, behind_selectors 0 device.0.1 selected.0 selected.1, behind_device missing behind.0 device.0 device.1, behind_version missing lines behind.0 behind.1))
 

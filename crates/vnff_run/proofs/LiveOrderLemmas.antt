@@ -1,7 +1,7 @@
 -- The first commands of a live run, where memory doesn't run out: they are obeyed as by a device alone, and their changes
 -- leave its objects.
 use Rattle.std.proofs.Common.{◌≡◌, ℕ, zero, suc, ◌+◌, ◌<◌, false, List, [], ◌∷◌, ◌++◌, length, map, take, Some, refl, sym, ap, subst, ◌∙◌, append_assoc, add-one, arith}
-use Rattle.std.specs.Prelude.{All, MatchBool, fold, slice_get}
+use Rattle.std.specs.Prelude.{MatchBool, fold, slice_get}
 use Rattle.std.proofs.Math.Seq.{take-append_seam}
 use Rattle.std.proofs.lemmas.Bool.{cond-false}
 use Rattle.std.proofs.lemmas.List.Elements.{All-head, All-tail}

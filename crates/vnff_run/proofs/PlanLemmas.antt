@@ -15,12 +15,12 @@ use Rattle.vnff_run.specs.Forms.{WordForm, form_of}
 use Rattle.vnff_run.specs.SteerInputs.{is_steer, steering_by, steering_of}
 use Rattle.vnff_run.specs.Steering.{Steering}
 use Rattle.rx_sinks.specs.Sinks.{SinkState}
-use Rattle.vnff_run.specs.Inputs.{InputFault, Missing, Refused}
+use Rattle.vnff_run.specs.Inputs.{Missing, Refused}
 use Rattle.vnff_run.specs.LiveRuns.{live_in}
-use Rattle.vnff_run.specs.LiveTexts.{IsLiveText, live_text}
+use Rattle.vnff_run.specs.LiveTexts.{live_text}
 use Rattle.vnff_run.specs.LiveWords.{LiveWords, live_of}
-use Rattle.vnff_run.specs.Outcomes.{Outcome, fault_outcome, outcome_of, refusal_line, silent_outcome, words_status}
-use Rattle.vnff_run.specs.PlanEndings.{EndsAs, IsCarriedOut, IsCutShort, LiveEnds, PlanEnds, WherePlanned}
+use Rattle.vnff_run.specs.Outcomes.{fault_outcome, outcome_of, refusal_line, silent_outcome, words_status}
+use Rattle.vnff_run.specs.PlanEndings.{EndsAs, LiveEnds, PlanEnds, WherePlanned}
 use Rattle.vnff_run.specs.Plans.{Ends, IsText, Lives, Plan, WroteFront, WroteText, live_plan, plan_by, plan_in, plan_of, plan_status}
 use Rattle.vnff_run.specs.declared.live_run.LiveRun.{LiveRun}
 use Rattle.vnff_run.specs.declared.stop.RefusedInput.{RefusedInput}

@@ -17,7 +17,7 @@ use Rattle.vnff_base.specs.Lines.{NumberedLine, line_count}
 use Rattle.cap_table.specs.Caps.{AreCaps, CapsParts, all_selectors}
 use Rattle.cap_table.specs.declared.start.Start.{Start}
 use Rattle.vnff_run.specs.DeviceLines.{caps_of, device_of, is_version}
-use Rattle.vnff_run.specs.Grammar.{after_version, device_in, items_of, script_of, script_of_lines, selectors_in, with_selectors}
+use Rattle.vnff_run.specs.Grammar.{after_version, device_in, items_of, script_of, script_of_lines, selectors_in, caps_with_selectors}
 use Rattle.vnff_run.specs.ItemLines.{admin_of, frame_of, item_of}
 use Rattle.vnff_run.specs.ScriptTexts.{device_words, is_selector, item_words, script_lines, script_text, select_words, selector_lines, version_words}
 use Rattle.vnff_run.specs.SelectLines.{is_select, selector_of}
@@ -174,7 +174,7 @@ selectors-same (x ∷ xs) (y ∷ ys) same =
     ap (λ s. s ∷ xs) first ∙ ap (λ more. y ∷ more) (selectors-same xs ys parts.1)
 
 -- selectors that lines name are the device's
-selectors-kept : (caps : CapsParts) (selectors : List SelectorParts) → 1 ≤ length selectors → with_selectors (bare caps) selectors ≡ record { pairs = caps.pairs; limits = caps.limits; selectors = selectors }
+selectors-kept : (caps : CapsParts) (selectors : List SelectorParts) → 1 ≤ length selectors → caps_with_selectors (bare caps) selectors ≡ record { pairs = caps.pairs; limits = caps.limits; selectors = selectors }
 selectors-kept caps [] some = absurd (omega (arith, some))
 selectors-kept caps (selector ∷ selectors) some = refl
 
@@ -183,7 +183,7 @@ record IsSelected (script : Script) (first : Result (List SelectorParts × List 
   selectors : List SelectorParts
   from : ℕ
   read : first ≡ Ok (selectors, numbered_words from (map item_words script.items))
-  same : with_selectors (bare script.caps) selectors ≡ script.caps
+  same : caps_with_selectors (bare script.caps) selectors ≡ script.caps
 
 selected-read : (script : Script) → IsSpellable script → IsSelected script (selectors_in 0 (numbered_words 3 (selector_lines script.caps.selectors ++ map item_words script.items)))
 unfolding selector_lines

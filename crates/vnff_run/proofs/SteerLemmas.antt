@@ -1,6 +1,6 @@
 -- How forms end, of which one steers, by what they read and what they then do.
-use Rattle.std.proofs.Common.{◌≡◌, ℕ, List, [], ◌∷◌, Option, Some, None, option_map, Result, Ok, Err, length, refl, sym, ap, ◌∙◌, subst}
-use Rattle.std.specs.Prelude.{IfSome, IsSomeAnd, MatchOption}
+use Rattle.std.proofs.Common.{◌≡◌, ℕ, List, [], ◌∷◌, Some, None, option_map, Result, Ok, Err, refl, sym, ap, ◌∙◌, subst}
+use Rattle.std.specs.Prelude.{IsSomeAnd, MatchOption}
 use Rattle.std.specs.Result.{result_ok}
 use Rattle.std.proofs.lemmas.Option.{IfSome_then}
 use Rattle.cap_table.specs.Caps.{CapsParts}
@@ -17,7 +17,7 @@ use Rattle.vnff_run.specs.Deliveries.{SteerRuns, SteersSinks, steering_on}
 use Rattle.vnff_run.specs.Endings.{FormEnds, IsUntouched, ReadStops, ReadsInput}
 use Rattle.vnff_run.specs.Forms.{WordForm, Steer}
 use Rattle.vnff_run.specs.Outcomes.{done_outcome, outcome_in}
-use Rattle.vnff_run.specs.Replay.{state_behind}
+use Rattle.vnff_run.specs.Replay.{state_after_items}
 use Rattle.vnff_run.specs.SteerEndings.{FormDoes, OfSteering, SinksAre}
 use Rattle.vnff_run.specs.SteerInputs.{steer_input_in, steering_by, steering_in}
 use Rattle.vnff_run.specs.Steering.{AllSteered, FrontSteered, Steering, steer_text, steering_for}
@@ -36,7 +36,7 @@ caps_effect state (effects.Use opcodes) = refl
 caps_effect state (effects.Caps driver) = refl
 caps_effect state (effects.Change change) = refl
 
-pub caps_behind : (state : DeviceState) (items : List Item) → (state_behind state items).caps ≡ state.caps
+pub caps_behind : (state : DeviceState) (items : List Item) → (state_after_items state items).caps ≡ state.caps
 unfolding state_after
 caps_behind state [] = refl
 caps_behind state (Admin line ∷ items) =
@@ -113,12 +113,12 @@ steer_does {A = A} shelf shelf_new out out_new script capture input old new (Err
 -- ---- the device behind a script's commands
 
 -- it steers as the script says
-pub steering_is : (script : Script) (frames : List (List ℕ)) (device : DeviceState) → device ≡ state_behind (start_state script.caps script.start) script.items → steering_on device frames ≡ steering_for (script, frames)
+pub steering_is : (script : Script) (frames : List (List ℕ)) (device : DeviceState) → device ≡ state_after_items (start_state script.caps script.start) script.items → steering_on device frames ≡ steering_for (script, frames)
 unfolding steering_for
 steering_is script frames device is =
     ap (λ (d : DeviceState). steering_on d frames) is
-    ∙ ap (λ (p : CapsParts). record { pairs = p.pairs; objects = (state_behind (start_state script.caps script.start) script.items).objects; frames = frames }) (caps_behind (start_state script.caps script.start) script.items)
+    ∙ ap (λ (p : CapsParts). record { pairs = p.pairs; objects = (state_after_items (start_state script.caps script.start) script.items).objects; frames = frames }) (caps_behind (start_state script.caps script.start) script.items)
 
-pub pairs_behind : (caps : CapsParts) (start : Start) (items : List Item) (device : DeviceState) → device ≡ state_behind (start_state caps start) items → device.caps.pairs ≡ caps.pairs
+pub pairs_behind : (caps : CapsParts) (start : Start) (items : List Item) (device : DeviceState) → device ≡ state_after_items (start_state caps start) items → device.caps.pairs ≡ caps.pairs
 pairs_behind caps start items device is =
     ap (λ (d : DeviceState). d.caps.pairs) is ∙ ap (λ (p : CapsParts). p.pairs) (caps_behind (start_state caps start) items)

@@ -12,7 +12,6 @@ use Rattle.ntuple_compile.specs.declared.error.CompileErr.TheVariants as errors
 use Rattle.vnff_run.specs.Endings.{JudgeStops, Judges, ReadStops, ReadsInput}
 use Rattle.vnff_run.specs.Programs.{compile_stop}
 use Rattle.vnff_run.specs.TableInputs.{commands_or_refusal, compiled_for, frames_in}
-use Rattle.vnff_run.specs.declared.compiled.CompiledTable.{CompiledTable}
 use Rattle.vnff_run.specs.Inputs.{InputFault, Missing, Refused}
 use Rattle.vnff_run.specs.Results.{◌>>=◌}
 use Rattle.vnff_run.specs.declared.stop.Stop.{Stop}

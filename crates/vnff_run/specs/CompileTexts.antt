@@ -5,10 +5,9 @@ use Rattle.admin_wire.specs.Layouts.{command_bytes}
 use Rattle.admin_wire.specs.declared.command.Command.{Command}
 use Rattle.cap_table.specs.Caps.{CapsParts}
 use Rattle.cap_table.specs.declared.start.Start.TheVariants.{Ready}
-use Rattle.ntuple_text.specs.SpecTexts.{spec_text}
+use Rattle.ntuple_text.specs.SpecTexts.{spec_text, line_feed}
 use Rattle.ntuple_text.specs.declared.spec.Spec.{Spec}
 use Rattle.ntuple_compile.specs.SpecFits.{specs_of}
-use Rattle.vnff_run.specs.Replay.{line_feed}
 use Rattle.vnff_run.specs.ScriptTexts.{device_words, item_words, line_text, selector_lines, version_words}
 use Rattle.vnff_run.specs.declared.compiled.CompiledTable.{CompiledTable}
 use Rattle.vnff_run.specs.declared.script.Item.TheVariants.{Admin}

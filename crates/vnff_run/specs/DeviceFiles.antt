@@ -3,7 +3,7 @@ use Rattle.std.specs.Prelude.{ℕ, ◌+◌, List, [], ◌∷◌, Result, Ok, Err
 use Rattle.vnff_base.specs.Lines.{NumberedLine, line_count, word_lines}
 use Rattle.cap_table.specs.declared.start.Start.{Start}
 use Rattle.cap_table.specs.declared.start.Start.TheVariants.{Ready, Reset}
-use Rattle.vnff_run.specs.Grammar.{after_version, at_line, device_in, selectors_in, with_selectors}
+use Rattle.vnff_run.specs.Grammar.{after_version, at_line, device_in, selectors_in, caps_with_selectors}
 use Rattle.vnff_run.specs.Results.{◌>>=◌}
 use Rattle.vnff_run.specs.declared.script.Item.{Item}
 use Rattle.vnff_run.specs.declared.script.Reason.{Reason}
@@ -33,7 +33,7 @@ device_file_of_lines missing lines = do
   selected ← selectors_in 0 device.1
   items ← no_item selected.1
   start ← at_line (first_number missing behind) (ready_start device.0.start)
-  Ok (record { caps = with_selectors device.0.caps selected.0; start = start; items = items })
+  Ok (record { caps = caps_with_selectors device.0.caps selected.0; start = start; items = items })
 
 -- the device that a text spells; a line that is missing is at the number past the last line's
 abbrev pub device_file_of : List ℕ → Result Script (ℕ × Reason)

@@ -14,7 +14,7 @@ use Rattle.split_queue.specs.declared.ring_err.RingErr.{RingErr}
 use Rattle.split_queue.specs.declared.ring_err.RingErr.TheVariants as faults
 use Rattle.split_queue.specs.declared.setup.SetupErr.{SetupErr}
 use Rattle.split_queue.specs.declared.setup.SetupErr.TheVariants as setup
-use Rattle.vnff_run.specs.Replay.{line_feed}
+use Rattle.ntuple_text.specs.SpecTexts.{line_feed}
 use Rattle.vnff_run.specs.declared.drain.Last.{Last}
 use Rattle.vnff_run.specs.declared.drain.Last.TheVariants.{Empty, Faulty}
 

@@ -20,5 +20,5 @@ place_with (Some size) (Some desc) (Some avail) (Some used) =
 place_with _ _ _ _ = None
 
 -- the place that four words spell
-unfoldable pub place_of : List ℕ → List ℕ → List ℕ → List ℕ → Option Place
-place_of size desc avail used = place_with (size_of size) (number_of desc) (number_of avail) (number_of used)
+unfoldable pub place_from_words : List ℕ → List ℕ → List ℕ → List ℕ → Option Place
+place_from_words size desc avail used = place_with (size_of size) (number_of desc) (number_of avail) (number_of used)

@@ -3,7 +3,7 @@ use Rattle.std.specs.Prelude.{ℕ, List, [], ◌∷◌, codes, Option, Some, Non
 use Rattle.std.specs.Str.{bytes_eq}
 use Rattle.vnff_base.specs.Numbers.{number_of}
 use Rattle.split_queue.specs.declared.queue_place.Place.{Place}
-use Rattle.vnff_run.specs.DrainWords.{place_of}
+use Rattle.vnff_run.specs.DrainWords.{place_from_words}
 use Rattle.vnff_run.specs.LoadWords.{frame_count_of}
 use Rattle.vnff_run.specs.declared.form.Form.{Form}
 use Rattle.vnff_run.specs.declared.form.Form.TheVariants as forms
@@ -38,7 +38,7 @@ form_of (form ∷ first ∷ second ∷ []) =
 form_of (form ∷ device ∷ table ∷ capture ∷ []) =
     if bytes_eq form (codes "table") then Some (Table device table capture) else None
 form_of (form ∷ image ∷ size ∷ desc ∷ avail ∷ used ∷ []) =
-    if bytes_eq form (codes "drain") then option_map (Drain image) (place_of size desc avail used) else None
+    if bytes_eq form (codes "drain") then option_map (Drain image) (place_from_words size desc avail used) else None
 form_of _ = None
 
 -- a form as the code keeps it

@@ -53,9 +53,9 @@ items_of (line ∷ lines) = do
   Ok (item ∷ items)
 
 -- the device with the selectors that lines name; where no line names one it has all five
-abbrev pub with_selectors : CapsParts → List SelectorParts → CapsParts
-with_selectors caps [] = caps
-with_selectors caps selectors = record { pairs = caps.pairs; limits = caps.limits; selectors = selectors }
+abbrev pub caps_with_selectors : CapsParts → List SelectorParts → CapsParts
+caps_with_selectors caps [] = caps
+caps_with_selectors caps selectors = record { pairs = caps.pairs; limits = caps.limits; selectors = selectors }
 
 -- the script of lines
 unfoldable pub script_of_lines : ℕ → List NumberedLine → Result Script (ℕ × Reason)
@@ -64,7 +64,7 @@ script_of_lines missing lines = do
   device ← device_in missing behind
   selected ← selectors_in 0 device.1
   items ← items_of selected.1
-  Ok (record { caps = with_selectors device.0.caps selected.0; start = device.0.start; items = items })
+  Ok (record { caps = caps_with_selectors device.0.caps selected.0; start = device.0.start; items = items })
 
 -- the script that a text spells; a line that is missing is at the number past the last line's
 abbrev pub script_of : List ℕ → Result Script (ℕ × Reason)

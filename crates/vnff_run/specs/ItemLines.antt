@@ -1,6 +1,8 @@
 -- The lines of a script's items, this project's own: `admin HEX ROOM` and `frame HEX`.
 use Rattle.std.specs.Prelude.{ℕ, ◌≤◌, if◌then◌else◌, List, [], ◌∷◌, length, codes, Result, Ok, Err}
 use Rattle.std.specs.Str.{bytes_eq}
+use Rattle.capture.specs.Sizes.{longest_frame}
+use Rattle.steer.specs.BenchPlaces.{most_command, most_room}
 use Rattle.vnff_run.specs.Results.{◌>>=◌}
 use Rattle.vnff_run.specs.Words.{bytes_within, number_within}
 use Rattle.steer.specs.declared.admin_line.AdminLine.{AdminLine}
@@ -8,18 +10,6 @@ use Rattle.vnff_run.specs.declared.script.Item.{Item}
 use Rattle.vnff_run.specs.declared.script.Item.TheVariants.{Admin, Frame}
 use Rattle.vnff_run.specs.declared.script.Reason.{Reason}
 use Rattle.vnff_run.specs.declared.script.Reason.TheVariants.{Hex, Room, Word}
-
--- the most bytes of a command
-abbrev pub most_command : ℕ
-most_command = 1024
-
--- the most bytes of room for a reply
-abbrev pub most_room : ℕ
-most_room = 4096
-
--- the most bytes of a frame
-abbrev pub most_frame : ℕ
-most_frame = 262144
 
 -- `admin HEX ROOM`, by the words behind `admin`: a command, which has bytes, and the room for its reply
 unfoldable pub admin_of : List (List ℕ) → Result Item Reason
@@ -32,7 +22,7 @@ admin_of _ = Err Word
 -- `frame HEX`, by the words behind `frame`
 unfoldable pub frame_of : List (List ℕ) → Result Item Reason
 frame_of (hex ∷ []) = do
-  bytes ← bytes_within Hex 0 most_frame hex
+  bytes ← bytes_within Hex 0 longest_frame hex
   Ok (Frame bytes)
 frame_of _ = Err Word
 
@@ -53,4 +43,4 @@ pub record IsCommandWithin (line : AdminLine) : Type 0 where
 -- an item is, of what lines give
 abbrev pub IsWithin : Item → Type 0
 IsWithin (Admin line) = IsCommandWithin line
-IsWithin (Frame frame) = length frame ≤ most_frame
+IsWithin (Frame frame) = length frame ≤ longest_frame

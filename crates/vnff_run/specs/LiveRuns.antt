@@ -1,6 +1,6 @@
 -- What a live run is over, this project's own: a device, commands, the frames of a capture, and how many workers and
 -- first commands the words ask for.
-use Rattle.std.specs.Prelude.{ℕ, List, Option, Some, None, Result, Ok, Err}
+use Rattle.std.specs.Prelude.{ℕ, List, Option, Some, None, Result, Ok}
 use Rattle.std.specs.List.{filter_map}
 use Rattle.vnff_base.specs.Shelves.{Files}
 use Rattle.vnff_run.specs.Inputs.{InputFault, script_in}

@@ -4,7 +4,8 @@ use Rattle.std.specs.Prelude.{◌≡◌, ℕ, List, ◌++◌, codes, decimal}
 use Rattle.std.specs.List.{enumerate_from, flat_map}
 use Rattle.ff_headers.specs.declared.rule.Action.{Action}
 use Rattle.steer.specs.LiveRuns.{IsLiveRun, PacketLine}
-use Rattle.vnff_run.specs.Replay.{action_text, line_feed, reply_line}
+use Rattle.ntuple_text.specs.SpecTexts.{line_feed}
+use Rattle.vnff_run.specs.Replay.{action_text, reply_line}
 use Rattle.vnff_run.specs.declared.live_run.LiveRun.{LiveRun}
 
 -- `packet I after K ACTION`: the action of a frame with the objects that K accepted changes leave. Frames count from 0.

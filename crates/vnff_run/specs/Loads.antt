@@ -10,7 +10,7 @@ use Rattle.generated_load.specs.Counts.{counts_of}
 use Rattle.generated_load.specs.DrawnFrames.{drawn_frames}
 use Rattle.generated_load.specs.DrawnTables.{drawn_table}
 use Rattle.generated_load.specs.declared.counts.ActionCounts.{ActionCounts}
-use Rattle.vnff_run.specs.Replay.{line_feed}
+use Rattle.ntuple_text.specs.SpecTexts.{line_feed}
 
 -- what a table does with each of the frames
 abbrev pub actions_by : TableMap → List (List ℕ) → List Action

@@ -2,9 +2,10 @@
 use Rattle.std.specs.Prelude.{ℕ, List, [], ◌++◌, codes, decimal, Option, Some, None, Result, Ok, Err}
 use Rattle.vnff_base.specs.Shelves.{Files}
 use Rattle.split_queue.specs.declared.queue_place.Place.{Place}
+use Rattle.ntuple_text.specs.SpecTexts.{line_feed}
 use Rattle.vnff_run.specs.Drain.{drain_last, drain_text, setup_word}
 use Rattle.vnff_run.specs.Inputs.{InputFault, Missing, Refused, queue_in, script_in}
-use Rattle.vnff_run.specs.Replay.{replay_text, line_feed}
+use Rattle.vnff_run.specs.Replay.{replay_text}
 use Rattle.vnff_run.specs.SteerInputs.{steer_input_in}
 use Rattle.vnff_run.specs.Steering.{steer_text, steering_for}
 use Rattle.vnff_run.specs.declared.drain.Last.{Last}

@@ -1,5 +1,5 @@
 -- What a replay of a script writes, this project's own: a line for each item, in order.
-use Rattle.std.specs.Prelude.{ℕ, List, [], ◌∷◌, ◌++◌, length, take, codes, decimal, Option, Some, None, slice_get}
+use Rattle.std.specs.Prelude.{ℕ, List, [], ◌++◌, length, take, codes, decimal, Option, Some, None, slice_get}
 use Rattle.std.specs.List.{filter_map, flat_map, range_with_len}
 use Rattle.ff_headers.specs.Frames.{headers_of}
 use Rattle.ff_headers.specs.Places.{action_of}
@@ -8,12 +8,10 @@ use Rattle.ff_headers.specs.declared.rule.Action.TheVariants.{Default, Drop, Que
 use Rattle.vnff_base.specs.Hex.{hex_text}
 use Rattle.cap_table.specs.States.{DeviceState, start_state}
 use Rattle.cap_table.specs.Steps.{reply_of, state_after}
+use Rattle.ntuple_text.specs.SpecTexts.{line_feed}
 use Rattle.vnff_run.specs.declared.script.Script.{Script}
 use Rattle.vnff_run.specs.declared.script.Item.{Item}
 use Rattle.vnff_run.specs.declared.script.Item.TheVariants.{Admin, Frame}
-
-abbrev pub line_feed : List ℕ
-line_feed = 10 ∷ []
 
 -- how an action is printed
 unfoldable pub action_text : Action → List ℕ
@@ -34,8 +32,8 @@ command_in (Admin line) = Some (line.bytes, line.room)
 command_in (Frame _) = None
 
 -- the state that the commands among some items leave
-abbrev pub state_behind : DeviceState → List Item → DeviceState
-state_behind state items = state_after state (filter_map command_in items)
+abbrev pub state_after_items : DeviceState → List Item → DeviceState
+state_after_items state items = state_after state (filter_map command_in items)
 
 -- the line of an item in the state before it: the reply to a command, or the action of a frame
 unfoldable pub item_line : DeviceState → Item → List ℕ
@@ -48,7 +46,7 @@ line_in state (Some item) = item_line state item
 
 -- the line at a place: that of its item, in the state behind the items before it
 unfoldable pub line_at : DeviceState → List Item → ℕ → List ℕ
-line_at state items place = line_in (state_behind state (take place items)) (slice_get items place)
+line_at state items place = line_in (state_after_items state (take place items)) (slice_get items place)
 
 -- the lines of all items, in order
 unfoldable pub lines_of : DeviceState → List Item → List ℕ

@@ -9,8 +9,8 @@ use Rattle.ff_headers.specs.SelectorParts.{SelectorParts}
 use Rattle.vnff_base.specs.Hex.{hex_text}
 use Rattle.cap_table.specs.Caps.{CapsParts, all_selectors}
 use Rattle.cap_table.specs.declared.start.Start.{Start}
+use Rattle.ntuple_text.specs.SpecTexts.{line_feed}
 use Rattle.vnff_run.specs.DeviceLines.{start_word}
-use Rattle.vnff_run.specs.Replay.{line_feed}
 use Rattle.vnff_run.specs.SelectLines.{kind_word, mode_word}
 use Rattle.vnff_run.specs.declared.script.Item.{Item}
 use Rattle.vnff_run.specs.declared.script.Item.TheVariants.{Admin, Frame}

@@ -3,7 +3,8 @@ use Rattle.std.specs.Prelude.{ℕ, ◌≤◌, List, length, All}
 use Rattle.ff_headers.specs.SelectorParts.{SelectorParts}
 use Rattle.vnff_base.specs.Bytes.{IsBytes}
 use Rattle.cap_table.specs.Caps.{AreCaps}
-use Rattle.vnff_run.specs.ItemLines.{IsCommandWithin, most_frame}
+use Rattle.capture.specs.Sizes.{longest_frame}
+use Rattle.vnff_run.specs.ItemLines.{IsCommandWithin}
 use Rattle.steer.specs.declared.admin_line.AdminLine.{AdminLine}
 use Rattle.vnff_run.specs.declared.script.Item.{Item}
 use Rattle.vnff_run.specs.declared.script.Item.TheVariants.{Admin, Frame}
@@ -21,7 +22,7 @@ pub record IsCommand (line : AdminLine) : Type 0 where
 
 -- a frame that a line can give
 pub record IsFrame (frame : List ℕ) : Type 0 where
-  pub most : length frame ≤ most_frame
+  pub most : length frame ≤ longest_frame
   pub bytes : IsBytes frame
 
 abbrev pub IsItem : Item → Type 0

@@ -10,7 +10,8 @@ use Rattle.ff_headers.specs.declared.rule.Action.TheVariants.{Default, Drop, Que
 use Rattle.cap_table.specs.States.{start_state}
 use Rattle.rx_sinks.specs.Racks.{FirstSinks}
 use Rattle.rx_sinks.specs.Sinks.{SinkState, Follows, appended, finished}
-use Rattle.vnff_run.specs.Replay.{line_feed, state_behind}
+use Rattle.ntuple_text.specs.SpecTexts.{line_feed}
+use Rattle.vnff_run.specs.Replay.{state_after_items}
 use Rattle.vnff_run.specs.declared.script.Script.{Script}
 
 -- the number of queue pairs, the objects that a script's commands leave, and the frames that come then
@@ -23,7 +24,7 @@ pub record Steering : Type 0 where
 unfoldable pub steering_for : Script × List (List ℕ) → Steering
 steering_for input = record {
   pairs = input.0.caps.pairs;
-  objects = (state_behind (start_state input.0.caps input.0.start) input.0.items).objects;
+  objects = (state_after_items (start_state input.0.caps input.0.start) input.0.items).objects;
   frames = input.1;
 }
 

@@ -16,7 +16,7 @@ use Rattle.ntuple_compile.specs.Compiled.{compiled}
 use Rattle.ntuple_compile.specs.declared.error.CompileErr.{CompileErr}
 use Rattle.ntuple_compile.specs.declared.error.CompileErr.TheVariants as errors
 use Rattle.vnff_run.specs.DeviceFiles.{device_file_of}
-use Rattle.vnff_run.specs.Inputs.{InputFault, Missing, Refused, bytes_in}
+use Rattle.vnff_run.specs.Inputs.{InputFault, Missing, Refused, file_bytes}
 use Rattle.vnff_run.specs.Results.{◌>>=◌}
 use Rattle.vnff_run.specs.declared.compiled.CompiledTable.{CompiledTable}
 use Rattle.vnff_run.specs.declared.script.Reason.{Reason}
@@ -35,7 +35,7 @@ caps_or_refusal (Err fault) = Err (Refused (BadDevice fault.0 fault.1))
 
 -- the device in the file of that name
 unfoldable pub caps_in : List ℕ → Files → Result CapsParts InputFault
-caps_in name files = bytes_in kinds.Device name files >>= λ bytes. caps_or_refusal (device_file_of bytes)
+caps_in name files = file_bytes kinds.Device name files >>= λ bytes. caps_or_refusal (device_file_of bytes)
 
 -- ---- the table
 
@@ -62,7 +62,7 @@ table_or_refusal (Err err) = Err (table_fault err)
 -- the table in the file of that name, for so many queue pairs
 unfoldable pub table_in : ℕ → List ℕ → Files → Result TableMap InputFault
 table_in pairs name files = do
-  bytes ← bytes_in kinds.Table name files
+  bytes ← file_bytes kinds.Table name files
   table_or_refusal (table_of pairs (word_lines bytes))
 
 -- ---- the commands
@@ -103,7 +103,7 @@ frames_or_refusal (Err fault) = Err (Refused (BadCapture fault))
 
 -- the frames of the capture in the file of that name
 unfoldable pub frames_in : List ℕ → Files → Result (List (List ℕ)) InputFault
-frames_in name files = bytes_in kinds.Capture name files >>= λ bytes. frames_or_refusal (capture_of bytes)
+frames_in name files = file_bytes kinds.Capture name files >>= λ bytes. frames_or_refusal (capture_of bytes)
 
 -- a compiled table, and the frames that it is for
 unfoldable pub table_run_in : List ℕ → List ℕ → List ℕ → Files → Result (CompiledTable × List (List ℕ)) InputFault

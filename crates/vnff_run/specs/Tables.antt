@@ -9,7 +9,8 @@ use Rattle.ff_headers.specs.Places.{action_of}
 use Rattle.ff_headers.specs.declared.rule.Action.{Action}
 use Rattle.ntuple_text.specs.TableMaps.{TableMap}
 use Rattle.ntuple_compile.specs.SpecFits.{table_action}
-use Rattle.vnff_run.specs.Replay.{action_text, line_feed}
+use Rattle.ntuple_text.specs.SpecTexts.{line_feed}
+use Rattle.vnff_run.specs.Replay.{action_text}
 
 -- `packet I ACTION`; frames count from 0
 unfoldable pub packet_line : ℕ → Action → List ℕ

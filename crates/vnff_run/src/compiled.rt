@@ -4,14 +4,14 @@ ghost use Rattle.std.specs.Prelude.{◌≡◌, ◌≤◌, length, IfOk};
 ghost use Rattle.vnff_base.specs.Lines.{word_lines};
 ghost use Rattle.ntuple_compile.specs.Compiled.{compiled};
 ghost use Rattle.ntuple_text.specs.TableLines.{table_of};
+ghost use Rattle.vnff_base.specs.Shelves.{file_limit};
 ghost use Rattle.vnff_run.specs.DeviceFiles.{device_file_of};
 ghost use Rattle.vnff_run.specs.Endings.{Judges, ReadsInput};
-ghost use Rattle.vnff_run.specs.Inputs.{file_limit};
 ghost use Rattle.vnff_run.specs.TableInputs.{caps_in, caps_or_refusal, compiled_for, compiled_in};
 ghost use Rattle.vnff_run.specs.TableInputs.{table_in, table_or_refusal, table_run_in};
 ghost use Rattle.vnff_run.specs.Programs.{IsProgrammable, compile_stop, device_stop, table_stop};
 
-use crate::file::{bytes_in, frames_in};
+use crate::file::{file_bytes, frames_in};
 use crate::grammar::read_device_file;
 use crate::script::{Script, ScriptFault};
 use crate::stop::{FileKind, RefusedInput, Stop};
@@ -70,7 +70,7 @@ fn caps_in<S: Shelf>(alloc: Global, name: &str, shelf: &mut S) -> Result<DeviceC
     ensures read { ReadsInput (S.state shelf.old) (S.state shelf.new) (caps_in name.now) result }
     ensures same_files { (S.state shelf.new).files ≡ (S.state shelf.old).files }
 {
-    let bytes = bytes_in(alloc, FileKind::Device, name, shelf)?;
+    let bytes = file_bytes(alloc, FileKind::Device, name, shelf)?;
     caps_of(alloc, bytes.as_slice())
 }
 
@@ -105,7 +105,7 @@ fn table_in<S: Shelf>(alloc: Global, pairs: u8, name: &str, shelf: &mut S) -> Re
     ensures same_files { (S.state shelf.new).files ≡ (S.state shelf.old).files }
     ensures pairs { IfOk result (λ table. table.pairs ≡ pairs) }
 {
-    let bytes = bytes_in(alloc, FileKind::Table, name, shelf)?;
+    let bytes = file_bytes(alloc, FileKind::Table, name, shelf)?;
     table_of(alloc, bytes.as_slice(), pairs)
 }
 

@@ -1,7 +1,7 @@
 //! Frames that are delivered to the sinks of a rack, each to that of its queue.
 
 ghost use Rattle.std.specs.Prelude.{◌≡◌, ◌≤◌, ◌<◌, ℕ, All, length, IfOk, OnErr, OnOk, Some};
-ghost use Rattle.vnff_run.specs.ItemLines.{most_frame};
+ghost use Rattle.capture.specs.Sizes.{longest_frame};
 ghost use Rattle.vnff_run.specs.Deliveries.{DeliversAll, FinishesAll, OneDelivered, OneFaulted, steering_on};
 ghost use Rattle.vnff_run.specs.Steering.{queue_of};
 ghost use Rattle.vnff_run.specs.Tallies.{IsTallyOf};
@@ -23,7 +23,7 @@ pub(crate) fn deliver_and_finish(
     requires pairs { bench.now.device.caps.pairs ≡ pairs }
     requires some { 1 ≤ pairs }
     requires few { pairs ≤ 16 }
-    requires short { All (λ frame. length frame ≤ most_frame) frames.now }
+    requires short { All (λ frame. length frame ≤ longest_frame) frames.now }
     requires sinks { length (⟦<Rack as SinkList>⟧.sinks rack.old) ≡ 16 }
     ensures tally { IfOk result (λ tally. IsTallyOf bench.now.device.objects frames.now tally) }
     ensures sinks { FinishesAll (steering_on bench.now.device frames.now)
@@ -37,7 +37,7 @@ pub(crate) fn deliver_and_finish(
 fn deliver_all(bench: &Bench, frames: &Frames, rack: &mut Rack) -> Result<Tally, Failed>
     requires some { 1 ≤ bench.now.device.caps.pairs }
     requires few { bench.now.device.caps.pairs ≤ 16 }
-    requires short { All (λ frame. length frame ≤ most_frame) frames.now }
+    requires short { All (λ frame. length frame ≤ longest_frame) frames.now }
     requires sinks { length (⟦<Rack as SinkList>⟧.sinks rack.old) ≡ 16 }
     ensures tally { IfOk result (λ tally. IsTallyOf bench.now.device.objects frames.now tally) }
     ensures sinks { DeliversAll (steering_on bench.now.device frames.now)
@@ -56,7 +56,7 @@ fn deliver_all(bench: &Bench, frames: &Frames, rack: &mut Rack) -> Result<Tally,
 
 /// Delivers a frame to the sink of its queue, where it has one.
 fn deliver(queue: Option<u16>, frame: &[u8], rack: &mut Rack) -> Result<(), Failed>
-    requires short { length frame.now ≤ most_frame }
+    requires short { length frame.now ≤ longest_frame }
     requires within { (q : ℕ) → queue ≡ Some q → q < length (⟦<Rack as SinkList>⟧.sinks rack.old) }
     ensures ok { OnOk result (OneDelivered queue frame.now
         (⟦<Rack as SinkList>⟧.sinks rack.old) (⟦<Rack as SinkList>⟧.sinks rack.new)) }

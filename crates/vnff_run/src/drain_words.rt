@@ -1,7 +1,7 @@
 //! The words behind `drain IMAGE`: where the queue of an image lies.
 
 ghost use Rattle.std.specs.Prelude.{◌≡◌};
-ghost use Rattle.vnff_run.specs.DrainWords.{place_of, size_of};
+ghost use Rattle.vnff_run.specs.DrainWords.{place_from_words, size_of};
 
 use split_queue::Place;
 use vnff_base::num_read;
@@ -11,9 +11,9 @@ const MOST_SIZE: u64 = 32_768;
 
 /// The place that four words spell: the size of the queue, a power of two from 1 to 32,768, and the addresses of its
 /// descriptors, its available ring and its used ring.
-#[tactic(auto, unfolding(crate::specs::DrainWords::place_of))]
-pub(crate) fn place_of(size: &[u8], desc: &[u8], avail: &[u8], used: &[u8]) -> Option<Place>
-    ensures { result ≡ place_of size.now desc.now avail.now used.now }
+#[tactic(auto, unfolding(crate::specs::DrainWords::place_from_words))]
+pub(crate) fn place_from_words(size: &[u8], desc: &[u8], avail: &[u8], used: &[u8]) -> Option<Place>
+    ensures { result ≡ place_from_words size.now desc.now avail.now used.now }
 {
     let size = size_of(size)?;
     let desc = num_read(desc)?;

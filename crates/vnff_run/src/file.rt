@@ -1,9 +1,11 @@
 //! Files, read from a shelf to their ends, and what they hold.
 
 ghost use Rattle.std.specs.Prelude.{◌≡◌, ◌≤◌, All, length, IfOk};
+ghost use Rattle.vnff_base.specs.Shelves.{file_limit};
+ghost use Rattle.capture.specs.Sizes.{longest_frame};
 ghost use Rattle.vnff_run.specs.Endings.{ReadsInput};
-ghost use Rattle.vnff_run.specs.Inputs.{bytes_in, file_limit, script_in};
-ghost use Rattle.vnff_run.specs.ItemLines.{IsWithin, most_frame};
+ghost use Rattle.vnff_run.specs.Inputs.{file_bytes, script_in};
+ghost use Rattle.vnff_run.specs.ItemLines.{IsWithin};
 ghost use Rattle.vnff_run.specs.Programs.{capture_stop};
 ghost use Rattle.vnff_run.specs.TableInputs.{frames_in};
 
@@ -12,19 +14,16 @@ use crate::script::Script;
 use crate::stop::{FileKind, RefusedInput, Stop};
 use capture::{CaptureReadErr, Frames, read_capture};
 use std::alloc::Global;
-use vnff_base::{List, ReadErr, Shelf, read_all};
-
-/// The longest file that is read, in bytes: 64 MiB.
-const FILE_LIMIT: u64 = 67_108_864;
+use vnff_base::{FILE_LIMIT, List, ReadErr, Shelf, read_all};
 
 /// The bytes of a file that is to be one of this kind.
-pub(crate) fn bytes_in<S: Shelf>(
+pub(crate) fn file_bytes<S: Shelf>(
     alloc: Global,
     kind: FileKind,
     name: &str,
     shelf: &mut S,
 ) -> Result<List<u8>, Stop>
-    ensures read { ReadsInput (S.state shelf.old) (S.state shelf.new) (bytes_in kind name.now) result }
+    ensures read { ReadsInput (S.state shelf.old) (S.state shelf.new) (file_bytes kind name.now) result }
     ensures within { IfOk result (λ bytes. length bytes ≤ file_limit) }
     ensures same_files { (S.state shelf.new).files ≡ (S.state shelf.old).files }
 {
@@ -43,14 +42,14 @@ pub fn script_in<S: Shelf>(alloc: Global, name: &str, shelf: &mut S) -> Result<S
     ensures few { IfOk result (λ script. length script.items ≤ file_limit) }
     ensures same_files { (S.state shelf.new).files ≡ (S.state shelf.old).files }
 {
-    let bytes = bytes_in(alloc, FileKind::Script, name, shelf)?;
+    let bytes = file_bytes(alloc, FileKind::Script, name, shelf)?;
     Ok(read_script(alloc, bytes.as_slice())?)
 }
 
 /// The frames of the capture in a file, which is never held whole.
 pub(crate) fn frames_in<S: Shelf>(alloc: Global, name: &str, shelf: &mut S) -> Result<Frames, Stop>
     ensures read { ReadsInput (S.state shelf.old) (S.state shelf.new) (frames_in name.now) result }
-    ensures short { IfOk result (All (λ frame. length frame ≤ most_frame)) }
+    ensures short { IfOk result (All (λ frame. length frame ≤ longest_frame)) }
     ensures same_files { (S.state shelf.new).files ≡ (S.state shelf.old).files }
 {
     match read_capture(alloc, shelf, name, FILE_LIMIT) {

@@ -7,7 +7,7 @@ ghost use Rattle.vnff_run.specs.Forms.{form_of, form_view, load_of};
 ghost use Rattle.vnff_run.specs.Forms.{Replay as WordReplay, Compile as WordCompile, Table as WordTable};
 ghost use Rattle.vnff_run.specs.Forms.{Steer as WordSteer};
 
-use crate::drain_words::place_of;
+use crate::drain_words::place_from_words;
 use crate::load_words::frame_count_of;
 use split_queue::Place;
 use vnff_base::num_read;
@@ -47,7 +47,7 @@ pub fn form_of(words: &[String]) -> Option<Form<'_>>
             capture.as_str(),
         ),
         [form, image, size, desc, avail, used] if form.as_str() == "drain" => {
-            let place = place_of(
+            let place = place_from_words(
                 size.as_bytes(),
                 desc.as_bytes(),
                 avail.as_bytes(),

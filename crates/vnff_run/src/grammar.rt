@@ -5,10 +5,10 @@ ghost use Rattle.ff_headers.specs.Kinds.{kind_code};
 ghost use Rattle.ff_headers.specs.SelectorParts.{IsWhole};
 ghost use Rattle.vnff_base.specs.Lines.{words_of};
 ghost use Rattle.cap_table.specs.Caps.{AreSelectors};
+ghost use Rattle.vnff_base.specs.Shelves.{file_limit};
 ghost use Rattle.vnff_run.specs.DeviceFiles.{device_file_of, device_file_of_lines, first_number, ready_start};
 ghost use Rattle.vnff_run.specs.Grammar.{after_version, at_line, device_in, items_of, script_of, script_of_lines};
-ghost use Rattle.vnff_run.specs.Grammar.{selectors_in, with_selectors};
-ghost use Rattle.vnff_run.specs.Inputs.{file_limit};
+ghost use Rattle.vnff_run.specs.Grammar.{selectors_in, caps_with_selectors};
 ghost use Rattle.vnff_run.specs.ItemLines.{IsWithin, item_of};
 ghost use Rattle.vnff_run.specs.Readings.{HasSmallNumbers, IsFaultOf, lines_from};
 ghost use Rattle.vnff_run.specs.ScriptTexts.{script_text};
@@ -54,7 +54,7 @@ fn read_lines(alloc: Global, reader: &mut LineReader) -> Result<Script, ScriptFa
     let mut selectors = ArrayVec::new();
     let first = read_selectors(alloc, reader, &mut selectors)?;
     let items = read_items(alloc, first, reader)?;
-    let caps = with_selectors(caps, selectors);
+    let caps = caps_with_selectors(caps, selectors);
     Ok(Script { caps, start, items })
 }
 
@@ -82,7 +82,7 @@ fn read_device_lines(alloc: Global, reader: &mut LineReader) -> Result<Script, S
         return Err(Reason::Word.at(line.number));
     }
     let start = ready_start(start).map_err(|reason| reason.at(number))?;
-    let caps = with_selectors(caps, selectors);
+    let caps = caps_with_selectors(caps, selectors);
     Ok(Script {
         caps,
         start,
@@ -181,9 +181,9 @@ fn read_selector(
 }
 
 /// The device with the selectors that lines name, if there are any.
-fn with_selectors(caps: DeviceCaps, selectors: ArrayVec<Selector, 5>) -> DeviceCaps
+fn caps_with_selectors(caps: DeviceCaps, selectors: ArrayVec<Selector, 5>) -> DeviceCaps
     requires { AreSelectors selectors.items }
-    ensures { result ≡ with_selectors caps selectors.items }
+    ensures { result ≡ caps_with_selectors caps selectors.items }
 {
     if selectors.is_empty() {
         return caps;

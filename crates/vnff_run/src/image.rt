@@ -7,7 +7,7 @@ ghost use Rattle.split_queue.specs.Setup.{setup_fault};
 ghost use Rattle.vnff_run.specs.Endings.{ReadsInput};
 ghost use Rattle.vnff_run.specs.Inputs.{queue_in};
 
-use crate::file::bytes_in;
+use crate::file::file_bytes;
 use crate::stop::{FileKind, RefusedInput, Stop};
 use guest_mem::GuestMem;
 use split_queue::{DeviceEnd, Place};
@@ -27,7 +27,7 @@ pub(crate) fn queue_in<S: Shelf>(
     ensures placed { IfOk result (λ queue. setup_fault place (length queue.0) ≡ None) }
     ensures bytes { IfOk result (λ queue. IsBytes queue.0) }
 {
-    let bytes = bytes_in(alloc, FileKind::Image, name, shelf)?;
+    let bytes = file_bytes(alloc, FileKind::Image, name, shelf)?;
     let mem = GuestMem::of(bytes.into_vec());
     // Its clause says that the memory holds bytes, and so an index of 16 bits.
     let _ = mem.len();

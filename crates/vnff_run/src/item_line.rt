@@ -7,6 +7,7 @@ ghost use Rattle.vnff_run.specs.Readings.{IsLineFaultOf};
 
 use crate::script::{Item, LineFault, Reason};
 use crate::word::{bytes_within, number_within, one_word, two_words};
+use capture::LONGEST_FRAME;
 use std::alloc::Global;
 use steer::AdminLine;
 use vnff_base::text::first_word;
@@ -16,9 +17,6 @@ const MOST_COMMAND: usize = 1024;
 
 /// The most bytes of room for a reply.
 const MOST_ROOM: u64 = 4096;
-
-/// The most bytes of a frame.
-const MOST_FRAME: usize = 262_144;
 
 /// The item of a line.
 #[tactic(auto, unfolding(crate::specs::ItemLines::item_of))]
@@ -61,5 +59,5 @@ fn frame_of(alloc: Global, line: &[u8]) -> Result<Item, LineFault>
     let Some(hex) = one_word(line) else {
         return Err(LineFault::Bad(Reason::Word));
     };
-    Ok(Item::Frame(bytes_within(alloc, Reason::Hex, 0, MOST_FRAME, hex)?))
+    Ok(Item::Frame(bytes_within(alloc, Reason::Hex, 0, LONGEST_FRAME, hex)?))
 }

@@ -1,8 +1,8 @@
 //! The form `live WORKERS FIRST SCRIPT CAPTURE`: commands change the rules while workers classify frames, and then a
 //! line for each reply and for each frame.
 
-ghost use Rattle.std.specs.Prelude.{◌≡◌, ◌≤◌, Ok, length};
-ghost use Rattle.vnff_run.specs.Inputs.{file_limit};
+ghost use Rattle.std.specs.Prelude.{◌≤◌, Ok, length};
+ghost use Rattle.vnff_base.specs.Shelves.{file_limit};
 ghost use Rattle.vnff_run.specs.LiveWords.{live_view};
 ghost use Rattle.vnff_run.specs.PlanEndings.{EndsAs, LiveEnds, PlanEnds};
 ghost use Rattle.vnff_run.specs.Plans.{live_plan, plan_in};

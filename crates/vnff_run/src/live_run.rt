@@ -1,8 +1,8 @@
 //! What a live run is over, read from its files.
 
 ghost use Rattle.std.specs.Prelude.{◌≡◌, ◌≤◌, [], ◌∷◌, ◌++◌, All, length, IfOk, OnOk};
+ghost use Rattle.vnff_base.specs.Shelves.{file_limit};
 ghost use Rattle.vnff_run.specs.Endings.{Judges, ReadsInput};
-ghost use Rattle.vnff_run.specs.Inputs.{file_limit};
 ghost use Rattle.vnff_run.specs.ItemLines.{IsCommandWithin, IsWithin};
 ghost use Rattle.vnff_run.specs.LiveRuns.{commands_in, live_in, live_run};
 ghost use Rattle.vnff_run.specs.LiveWords.{live_view};

@@ -1,6 +1,6 @@
 //! What a live run writes, gathered: the line of each reply, and then the line of each packet.
 
-ghost use Rattle.std.specs.Prelude.{◌≡◌, ◌<◌, ◌≤◌, [], length};
+ghost use Rattle.std.specs.Prelude.{◌≡◌, ◌<◌, [], length};
 ghost use Rattle.std.specs.List.{enumerate_from, flat_map};
 ghost use Rattle.vnff_base.specs.Gatherings.{Gathers};
 ghost use Rattle.vnff_base.specs.Outputs.{Writes};

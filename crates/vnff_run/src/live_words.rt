@@ -1,7 +1,6 @@
 //! The words of a live run.
 
-ghost use Rattle.std.specs.Prelude.{◌≡◌, ◌≤◌, codes, map, option_map, string_bytes, IfSome, None, if◌then◌else◌};
-ghost use Rattle.std.specs.Str.{bytes_eq};
+ghost use Rattle.std.specs.Prelude.{◌≡◌, ◌≤◌, map, option_map, string_bytes, IfSome, None};
 ghost use Rattle.vnff_run.specs.LiveWords.{first_of, live_of, live_view, live_with, workers_of};
 
 use vnff_base::num_read;

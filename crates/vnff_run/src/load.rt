@@ -97,14 +97,14 @@ fn count_actions(bench: &Bench, x: u64, frames: u32) -> ActionCounts
     let mut state = x;
     for _ in 0..frames {
         let (next, frame) = drawn_frame(state);
-        counts.add(action_of(bench, &frame));
+        counts.add(frame_action(bench, &frame));
         state = next;
     }
     counts
 }
 
 /// What a device does with a frame.
-fn action_of(bench: &Bench, frame: &[u8]) -> Action
+fn frame_action(bench: &Bench, frame: &[u8]) -> Action
     ghost table: { TableMap }
     requires { DoesAs bench.now.device.objects table }
     ensures { result ≡ table_action table (headers_of frame.now) }

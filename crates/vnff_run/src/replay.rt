@@ -7,7 +7,7 @@ ghost use Rattle.vnff_run.specs.Endings.{FormEnds, RunsAs};
 ghost use Rattle.vnff_run.specs.Forms.{Replay};
 ghost use Rattle.vnff_run.specs.ItemLines.{IsCommandWithin, IsWithin};
 ghost use Rattle.vnff_run.specs.Outcomes.{done_outcome, outcome_in};
-ghost use Rattle.vnff_run.specs.Replay.{reply_line, frame_line, item_line, lines_of, replay_text, state_behind};
+ghost use Rattle.vnff_run.specs.Replay.{reply_line, frame_line, item_line, lines_of, replay_text, state_after_items};
 ghost use Rattle.ff_headers.specs.Frames.{headers_of};
 ghost use Rattle.ff_headers.specs.Places.{action_of};
 ghost use Rattle.cap_table.specs.Steps.{reply_of, next_state};
@@ -70,7 +70,7 @@ fn put_items<O: Out>(
     requires { All IsWithin items.now }
     ensures lines { Gathers (O.state out.old) (O.state out.new) text.old text.new
         (lines_of bench.old.device items.now) result }
-    ensures state { OnOk result (bench.new.device ≡ state_behind bench.old.device items.now) }
+    ensures state { OnOk result (bench.new.device ≡ state_after_items bench.old.device items.now) }
 {
     for item in items {
         put_item(bench, item, text, out)?;
@@ -88,7 +88,7 @@ fn put_item<O: Out>(
     requires { IsWithin item.now }
     ensures line { Gathers (O.state out.old) (O.state out.new) text.old text.new
         (item_line bench.old.device item.now) result }
-    ensures state { bench.new.device ≡ state_behind bench.old.device (item.now ∷ []) }
+    ensures state { bench.new.device ≡ state_after_items bench.old.device (item.now ∷ []) }
 {
     match item {
         Item::Admin(line) => put_command(bench, line, text, out),

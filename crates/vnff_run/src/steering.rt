@@ -3,12 +3,13 @@
 ghost use Rattle.std.specs.Prelude.{◌≡◌, ◌≤◌, ◌∷◌, [], All, length, IfOk};
 ghost use Rattle.cap_table.specs.States.{start_state};
 ghost use Rattle.cap_table.specs.Steps.{next_state};
+ghost use Rattle.capture.specs.Sizes.{longest_frame};
 ghost use Rattle.vnff_run.specs.Deliveries.{SteerRuns, SteersSinks, steering_on};
 ghost use Rattle.vnff_run.specs.Endings.{ReadsInput};
 ghost use Rattle.vnff_run.specs.Forms.{Steer};
-ghost use Rattle.vnff_run.specs.ItemLines.{IsCommandWithin, IsWithin, most_frame};
+ghost use Rattle.vnff_run.specs.ItemLines.{IsCommandWithin, IsWithin};
 ghost use Rattle.vnff_run.specs.Outcomes.{done_outcome};
-ghost use Rattle.vnff_run.specs.Replay.{state_behind};
+ghost use Rattle.vnff_run.specs.Replay.{state_after_items};
 ghost use Rattle.vnff_run.specs.SteerEndings.{FormDoes};
 ghost use Rattle.vnff_run.specs.SteerInputs.{steer_input_in};
 ghost use Rattle.vnff_run.specs.Steering.{steer_text, steering_for};
@@ -52,7 +53,7 @@ fn steer_input_in<S: Shelf>(
     ensures read { ReadsInput (S.state shelf.old) (S.state shelf.new)
         (steer_input_in script.now capture.now) result }
     ensures items { IfOk result (λ input. All IsWithin input.0.items) }
-    ensures short { IfOk result (λ input. All (λ frame. length frame ≤ most_frame) input.1) }
+    ensures short { IfOk result (λ input. All (λ frame. length frame ≤ longest_frame) input.1) }
 {
     let script = script_in(alloc, script, shelf)?;
     let frames = frames_in(alloc, capture, shelf)?;
@@ -69,7 +70,7 @@ fn steer_script<O: Out>(
     rack: &mut Rack,
 ) -> Result<(), Stop>
     requires items { All IsWithin script.items }
-    requires short { All (λ frame. length frame ≤ most_frame) frames.now }
+    requires short { All (λ frame. length frame ≤ longest_frame) frames.now }
     requires sinks { length (⟦<Rack as SinkList>⟧.sinks rack.old) ≡ 16 }
     ensures runs { SteerRuns (O.state out.old) (O.state out.new)
         (done_outcome (steer_text (steering_for (script, frames.now)))) result }
@@ -86,7 +87,7 @@ fn steer_script<O: Out>(
 fn bench_behind_script(alloc: Global, script: Script) -> Result<Bench, AllocError>
     requires { All IsWithin script.items }
     ensures { IfOk result (λ bench.
-        bench.device ≡ state_behind (start_state script.caps script.start) script.items) }
+        bench.device ≡ state_after_items (start_state script.caps script.start) script.items) }
 {
     let Script { caps, start, items } = script;
     let mut bench = Bench::new(alloc, caps, start)?;
@@ -106,7 +107,7 @@ fn hand_on<O: Out>(
     requires pairs { bench.now.device.caps.pairs ≡ pairs }
     requires some { 1 ≤ pairs }
     requires few { pairs ≤ 16 }
-    requires short { All (λ frame. length frame ≤ most_frame) frames.now }
+    requires short { All (λ frame. length frame ≤ longest_frame) frames.now }
     requires none { text.old ≡ [] }
     requires sinks { length (⟦<Rack as SinkList>⟧.sinks rack.old) ≡ 16 }
     ensures runs { SteerRuns (O.state out.old) (O.state out.new)
@@ -123,7 +124,7 @@ fn hand_on<O: Out>(
 /// Sends the commands among some items to a device, in order. The replies are not asked for.
 fn send_commands(bench: &mut Bench, items: &[Item])
     requires { All IsWithin items.now }
-    ensures { bench.new.device ≡ state_behind bench.old.device items.now }
+    ensures { bench.new.device ≡ state_after_items bench.old.device items.now }
 {
     for item in items {
         send_command(bench, item);
@@ -133,7 +134,7 @@ fn send_commands(bench: &mut Bench, items: &[Item])
 /// Does what an item asks of a device: a command is sent, and a frame is skipped.
 fn send_command(bench: &mut Bench, item: &Item)
     requires { IsWithin item.now }
-    ensures { bench.new.device ≡ state_behind bench.old.device (item.now ∷ []) }
+    ensures { bench.new.device ≡ state_after_items bench.old.device (item.now ∷ []) }
 {
     match item {
         Item::Admin(line) => send(bench, line),

@@ -1,5 +1,6 @@
 //! A live run whose workers go on beside its commands.
 
+use crate::run::SCRIPT;
 use rx_sinks::{CountSink, Rack, RxSink};
 use std::alloc::{AllocError, Global};
 use std::sync::Wait;
@@ -9,15 +10,6 @@ use std::thread::{self, Threads};
 use steer::Gate;
 use vnff_base::{MemOut, MemShelf};
 use vnff_run::{DONE, top};
-
-// A group, a classifier and a rule are created.
-const SCRIPT: &[u8] = b"\
-    vnff 1\n\
-    device 4 2 4 8 8 15 3 ready\n\
-    admin 0a0000000000000000000000000000000000000000000000000200000100000000000000000000000500 8\n\
-    admin 0a0000000000000000000000000000000000000000000000010200000700000000000000000000000100000000000000010000000e000000000000000000000000000000ffff 8\n\
-    admin 0a0000000000000000000000000000000000000000000000020200000900000000000000000000000100000007000000000e0200020000000000000000000000000000000800 8\n\
-    ";
 
 // Two frames, which the last command's rule sends to queue 1.
 const CAPTURE: &[u8] = b"\xd4\xc3\xb2\xa1\x02\0\x04\0\0\0\0\0\0\0\0\0\0\0\x04\0\x01\0\0\0\

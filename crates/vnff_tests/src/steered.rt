@@ -30,7 +30,8 @@ pub fn capture(alloc: Global) -> Result<Vec<u8>, AllocError> {
     Ok(bytes)
 }
 
-/// A run's status, whether it wrote all or nothing, how many frames sinks 0 and 1 hold, and how many sinks were finished.
+/// A run's status, whether it wrote all or nothing, how many frames sinks 0 and 1 hold, and how many sinks were
+/// finished.
 #[derive(Debug, Drop, PartialEq)]
 struct Run {
     status: u8,

@@ -1,9 +1,7 @@
-use Rattle.std.proofs.Common.{◌≡◌, List, [], ◌++◌, append-nil, sym, ap, ◌∙◌}
-use Rattle.ff_headers.specs.declared.change.Change.{Change}
+use Rattle.std.proofs.Common.{◌≡◌, ◌++◌, append-nil, sym, ap, ◌∙◌}
 use Rattle.admin_wire.specs.Replies.{reply_bytes}
 use Rattle.cap_table.specs.Answers.{bare_reply}
 use Rattle.cap_table.specs.Steps.{effect_of, reply_of, with_effect}
-use Rattle.cap_table.specs.declared.answer.Effect.{Effect}
 use Rattle.cap_table.specs.declared.answer.Effect.TheVariants as effects
 use Rattle.snapshots.specs.Ends.{with_list}
 use Rattle.steer.specs.LiveCommands.{changes_of}

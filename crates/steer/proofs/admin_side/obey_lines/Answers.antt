@@ -1,4 +1,4 @@
-use Rattle.std.proofs.Common.{◌≡◌, ◌≤◌, ◌<◌, get_or, ap, ◌∙◌, arith}
+use Rattle.std.proofs.Common.{◌≡◌, get_or, ap, ◌∙◌, arith}
 use Rattle.steer.proofs.AdminLemmas.{carried_more}
 use Rattle.steer.proofs.admin_side.obey_lines.Goals as goal
 

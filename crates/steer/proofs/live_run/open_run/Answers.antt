@@ -1,6 +1,5 @@
-use Rattle.std.proofs.Common.{◌≡◌, ◌≤◌, [], List, length, take, drop, ◌++◌, sym, ap, subst, ◌∙◌, arith}
+use Rattle.std.proofs.Common.{◌≡◌, [], length, sym, ap, subst, ◌∙◌, arith}
 use Rattle.std.specs.Prelude.{All}
-use Rattle.snapshots.specs.Fresh.{IsFresh}
 use Rattle.snapshots.specs.Workers.{WorkerState}
 use Rattle.steer.specs.LivePhases.{IsOpened}
 use Rattle.steer.specs.LiveSteps.{HaveTurned, HasKept}

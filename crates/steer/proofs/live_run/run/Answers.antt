@@ -1,4 +1,4 @@
-use Rattle.std.proofs.Common.{◌≡◌, ◌≤◌, length, sym, ap, subst, ◌∙◌, arith}
+use Rattle.std.proofs.Common.{length, sym, ap, subst, ◌∙◌, arith}
 use Rattle.snapshots.specs.Ends.{EndState}
 use Rattle.steer.specs.AdminSides.{HasCarriedOut}
 use Rattle.steer.specs.declared.admin_side.AdminSide.{AdminSide}

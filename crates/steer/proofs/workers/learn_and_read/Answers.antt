@@ -1,4 +1,4 @@
-use Rattle.std.proofs.Common.{sym, ap, subst, ◌<◌}
+use Rattle.std.proofs.Common.{sym, subst, ◌<◌}
 use Rattle.steer.proofs.workers.learn_and_read.Goals as goal
 
 pub read-requires : goal.read-requires

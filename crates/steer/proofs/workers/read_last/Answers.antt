@@ -1,4 +1,4 @@
-use Rattle.std.proofs.Common.{◌≡◌, ℕ, ◌+◌, ◌<◌, ◌++◌, ◌∷◌, [], length, get_or, refl, sym, ap, subst, ◌∙◌, arith}
+use Rattle.std.proofs.Common.{◌≡◌, ◌<◌, length, get_or, refl, sym, ap, subst, ◌∙◌, arith}
 use Rattle.snapshots.specs.Ends.{EndState}
 use Rattle.snapshots.specs.Lists.{ToldList}
 use Rattle.snapshots.specs.Workers.{WorkerState}

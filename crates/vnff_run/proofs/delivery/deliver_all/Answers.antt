@@ -1,8 +1,8 @@
-use Rattle.std.proofs.Common.{◌≡◌, ◌<◌, ◌≤◌, ℕ, List, Some, length, take, sym, ap, ◌∙◌, subst, arith, []}
+use Rattle.std.proofs.Common.{◌≡◌, ◌<◌, ℕ, Some, length, take, sym, ap, ◌∙◌, subst, arith, []}
 use Rattle.std.proofs.lemmas.List.{take_all}
 use Rattle.vnff_run.specs.Deliveries.{steering_on}
 use Rattle.vnff_run.specs.Steering.{queue_of}
-use Rattle.vnff_run.specs.Tallies.{IsTallyOf, tally_with}
+use Rattle.vnff_run.specs.Tallies.{IsTallyOf}
 use Rattle.vnff_run.proofs.DeliveryLemmas.{fails_at, front_more, got_all, got_failed, got_more, got_none, queue_within, room_dropped, room_queue}
 use Rattle.vnff_run.proofs.PacketLemmas.{packet_is_there}
 use Rattle.vnff_run.proofs.TallyLemmas.{tally_more, tally_none}

@@ -1,4 +1,4 @@
-use Rattle.std.proofs.Common.{◌≤◌, arith}
+use Rattle.std.proofs.Common.{arith}
 use Rattle.vnff_run.specs.Deliveries.{steering_on}
 use Rattle.vnff_run.specs.Tallies.{IsTallyOf}
 use Rattle.vnff_run.proofs.DeliveryLemmas.{and_if_ok, delivers_count, finishes_all}

@@ -7,13 +7,13 @@ pub returns-in_err-bytes-clause-read : goal.returns-in_err-bytes-clause-read
 unfolding script_in
 returns-in_err-bytes-clause-read g c =
     let p = err_from_is_err_and c.from_residual.result c.from_residual.ensures.1 in
-    rw (p.1, p.2) (read_stops (g.S.Shelf.state c.args.shelf.now) (g.S.Shelf.state c.bytes_in.new.shelf) _ _ _ c.in_err-bytes.ensures.read)
+    rw (p.1, p.2) (read_stops (g.S.Shelf.state c.args.shelf.now) (g.S.Shelf.state c.file_bytes.new.shelf) _ _ _ c.in_err-bytes.ensures.read)
 
 pub returns-in_err-read_script-clause-read : goal.returns-in_err-read_script-clause-read
 returns-in_err-read_script-clause-read g c =
     let p = err_from_is_err_and c.from_residual-in_err-read_script.result c.from_residual-in_err-read_script.ensures.1 in
-    rw (p.1, p.2) (script_stops (g.S.Shelf.state c.args.shelf.now) (g.S.Shelf.state c.bytes_in.new.shelf) _ _ _ _ c.in_ok-bytes.ensures.read c.as_slice.ensures c.in_err-read_script.ensures.read)
+    rw (p.1, p.2) (script_stops (g.S.Shelf.state c.args.shelf.now) (g.S.Shelf.state c.file_bytes.new.shelf) _ _ _ _ c.in_ok-bytes.ensures.read c.as_slice.ensures c.in_err-read_script.ensures.read)
 
 pub returns-clause-read : goal.returns-clause-read
 returns-clause-read g c =
-    script_read (g.S.Shelf.state c.args.shelf.now) (g.S.Shelf.state c.bytes_in.new.shelf) _ _ _ _ c.in_ok-bytes.ensures.read c.as_slice.ensures c.in_ok-read_script.ensures.read
+    script_read (g.S.Shelf.state c.args.shelf.now) (g.S.Shelf.state c.file_bytes.new.shelf) _ _ _ _ c.in_ok-bytes.ensures.read c.as_slice.ensures c.in_ok-read_script.ensures.read

@@ -18,5 +18,5 @@ loop-preserved g c =
       state = state_more i c.args.x c.loop.state drawn c.loop.invariant.state c.drawn_frame-next.ensures;
       counts =
           c.add.ensures (actions_by g.table (frames_from i c.args.x).1) c.loop.invariant.counts
-          ∙ ap counts_of (actions_more g.table i c.args.x c.loop.state drawn c.action_of.result c.loop.invariant.state c.drawn_frame-next.ensures c.action_of.ensures);
+          ∙ ap counts_of (actions_more g.table i c.args.x c.loop.state drawn c.frame_action.result c.loop.invariant.state c.drawn_frame-next.ensures c.frame_action.ensures);
     }

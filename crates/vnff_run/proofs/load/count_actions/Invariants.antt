@@ -5,8 +5,8 @@ use Rattle.vnff_run.specs.Loads.{actions_by}
 use Rattle.vnff_run.proofs.LoadLemmas.{frames_from}
 use Rattle.vnff_run.proofs.load.count_actions.Given as goal
 
-abbrev pub ghost-action_of : goal.ghost-action_of
-ghost-action_of g a = g.table
+abbrev pub ghost-frame_action : goal.ghost-frame_action
+ghost-frame_action g a = g.table
 
 abbrev pub invariant-loop : goal.invariant-loop
 invariant-loop g l = record {

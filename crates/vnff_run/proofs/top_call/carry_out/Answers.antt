@@ -1,4 +1,4 @@
-use Rattle.std.proofs.Common.{◌≡◌, map, Some, None, refl, sym}
+use Rattle.std.proofs.Common.{◌≡◌, map, Some, refl, sym}
 use Rattle.std.specs.Prelude.{string_bytes}
 use Rattle.vnff_run.specs.LiveWords.{live_of, live_view}
 use Rattle.vnff_run.proofs.PlanLemmas.{live_words_alone, no_steering, plan_of_live, plan_of_plain}

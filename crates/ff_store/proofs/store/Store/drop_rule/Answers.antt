@@ -1,14 +1,14 @@
 use Rattle.std.proofs.Common.{ap}
 use Rattle.ff_headers.specs.declared.change.Change.TheVariants.{DropRule}
-use Rattle.ff_store.proofs.RuleLemmas.{once_le, drop_counts}
+use Rattle.ff_store.proofs.RuleLemmas.{one_if_le, drop_counts}
 use Rattle.ff_store.proofs.StoreLemmas.{drop_rule_sound, rule_dropped, kept, stepped}
 use Rattle.ff_store.proofs.store.Store.drop_rule.Goals as goal
 
 pub uncount-requires-clause-groups : goal.uncount-requires-clause-groups
-uncount-requires-clause-groups c = once_le (λ r. r.group) c.self.inside.rules.entries c.args.id c.remove-removed.result c.remove-removed.ensures.removed _ c.self.invariant.group_counts
+uncount-requires-clause-groups c = one_if_le (λ r. r.group) c.self.inside.rules.entries c.args.id c.remove-removed.result c.remove-removed.ensures.removed _ c.self.invariant.group_counts
 
 pub uncount-requires-clause-classifiers : goal.uncount-requires-clause-classifiers
-uncount-requires-clause-classifiers c = once_le (λ r. r.classifier) c.self.inside.rules.entries c.args.id c.remove-removed.result c.remove-removed.ensures.removed _ c.self.invariant.classifier_counts
+uncount-requires-clause-classifiers c = one_if_le (λ r. r.classifier) c.self.inside.rules.entries c.args.id c.remove-removed.result c.remove-removed.ensures.removed _ c.self.invariant.classifier_counts
 
 pub invariant_of-self : goal.invariant_of-self
 invariant_of-self c =

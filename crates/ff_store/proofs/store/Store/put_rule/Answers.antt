@@ -1,6 +1,6 @@
 use Rattle.std.proofs.Common.{ap, ◌∙◌}
 use Rattle.ff_headers.specs.declared.change.Change.TheVariants.{PutRule}
-use Rattle.ff_store.proofs.RuleLemmas.{once_le, put_counts, one_fits}
+use Rattle.ff_store.proofs.RuleLemmas.{one_if_le, put_counts, one_fits}
 use Rattle.ff_store.proofs.StoreLemmas.{rule_room, rule_group, rule_classifier, rules_fit, rule_put, kept, stepped}
 use Rattle.ff_store.proofs.store.Store.put_rule.Goals as goal
 
@@ -8,10 +8,10 @@ pub put-replaced-requires : goal.put-replaced-requires
 put-replaced-requires c = rule_room _ _ _ _ c.self.invariant _ c.self.view_is c.args.id c.args.rule c.requires
 
 pub uncount-requires-clause-groups : goal.uncount-requires-clause-groups
-uncount-requires-clause-groups c = once_le (λ r. r.group) c.self.inside.rules.entries c.args.id c.put-replaced.result c.put-replaced.ensures.replaced _ c.self.invariant.group_counts
+uncount-requires-clause-groups c = one_if_le (λ r. r.group) c.self.inside.rules.entries c.args.id c.put-replaced.result c.put-replaced.ensures.replaced _ c.self.invariant.group_counts
 
 pub uncount-requires-clause-classifiers : goal.uncount-requires-clause-classifiers
-uncount-requires-clause-classifiers c = once_le (λ r. r.classifier) c.self.inside.rules.entries c.args.id c.put-replaced.result c.put-replaced.ensures.replaced _ c.self.invariant.classifier_counts
+uncount-requires-clause-classifiers c = one_if_le (λ r. r.classifier) c.self.inside.rules.entries c.args.id c.put-replaced.result c.put-replaced.ensures.replaced _ c.self.invariant.classifier_counts
 
 pub raise-requires-clause-held : goal.raise-requires-clause-held
 raise-requires-clause-held c =

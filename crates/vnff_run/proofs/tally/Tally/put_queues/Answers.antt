@@ -1,7 +1,7 @@
 use Rattle.std.proofs.Common.{◌<◌, arith}
 use Rattle.std.specs.List.{range_with_len}
 use Rattle.std.proofs.lemmas.List.FromFn.{length-range_with_len}
-use Rattle.vnff_base.proofs.Gathering.{took_nothing, took_item, took_items, lost_item, gathers_lost}
+use Rattle.vnff_base.proofs.Gathering.{took_item, took_items, lost_item, gathers_lost}
 use Rattle.vnff_run.specs.Tallies.{count_line}
 use Rattle.vnff_run.proofs.ReplayLemmas.{place_within, place_is}
 use Rattle.vnff_run.proofs.tally.Tally.put_queues.Goals as goal

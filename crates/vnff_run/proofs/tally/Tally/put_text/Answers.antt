@@ -1,4 +1,4 @@
-use Rattle.vnff_base.proofs.Gathering.{gathers_after, lost_after, lost_before, took_more, writes_gathered, writes_lost}
+use Rattle.vnff_base.proofs.Gathering.{lost_after, lost_before, took_more, writes_gathered, writes_lost}
 use Rattle.vnff_base.proofs.Writing.{writes_stopped}
 use Rattle.vnff_run.proofs.tally.Tally.put_text.Goals as goal
 

@@ -1,6 +1,6 @@
 use Rattle.std.proofs.Common.{◌-◌}
 use Rattle.matcher.proofs.SearchLemmas.{IsSearch}
-use Rattle.matcher.proofs.search.place_of.Given as goal
+use Rattle.matcher.proofs.search.row_place.Given as goal
 
 abbrev pub decreases-loop-low : goal.decreases-loop-low
 decreases-loop-low g l = l.high - l.low

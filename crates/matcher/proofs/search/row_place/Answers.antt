@@ -1,6 +1,6 @@
 use Rattle.std.proofs.Common.{◌≡◌, refl, sym, ◌∙◌, arith}
 use Rattle.matcher.proofs.SearchLemmas.{search_begun, search_low, search_high}
-use Rattle.matcher.proofs.search.place_of.Goals as goal
+use Rattle.matcher.proofs.search.row_place.Goals as goal
 
 pub loop-low-init : goal.loop-low-init
 loop-low-init g c = search_begun c.args.rows.now c.args.number c.args.key.now.items c.args.steps.now _ (omega arith)

@@ -2,7 +2,7 @@ use Rattle.std.proofs.Common.{◌≡◌, List, sym, subst}
 use Rattle.std.specs.Result.{result_err}
 use Rattle.admin_wire.specs.declared.command.Command.{Command}
 use Rattle.cap_table.specs.Verdicts.{Row, first_verdict, command_rows}
-use Rattle.ff_objects.proofs.check.change_of.Goals as goal
+use Rattle.ff_objects.proofs.check.checked_change.Goals as goal
 
 pub returns-in-Destroy-clause-refused : goal.returns-in-Destroy-clause-refused
 returns-in-Destroy-clause-refused c =

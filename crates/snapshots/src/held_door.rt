@@ -17,7 +17,7 @@ pub struct HeldDoor<D: Door> {
     /// Looks that are still to be refused.
     left: u64,
     /// Looks that this door refused.
-    held: u64,
+    refusals: u64,
 }
 
 impl<D: Door> Model for HeldDoor<D> {
@@ -32,7 +32,7 @@ impl<D: Door> Model for HeldDoor<D> {
         identity = D.identity h.inner;
         limits = D.limits h.inner;
         floors = D.floors h.inner;
-        refused = saturated (D.refused h.inner + h.held);
+        refused = saturated (D.refused h.inner + h.refusals);
       };
       left = h.left;
     } };
@@ -49,7 +49,7 @@ impl<D: Door> HeldDoor<D> {
         HeldDoor {
             inner,
             left: n,
-            held: 0,
+            refusals: 0,
         }
     }
 }
@@ -70,14 +70,14 @@ impl<D: Door> Door for HeldDoor<D> {
         ensures answer { MatchResult result
             (λ seen. IsRead self.old.door.limits self.old.door.floors self.new.door.floors headers.now seen)
             (λ _. Rose self.old.door.refused self.new.door.refused × (self.new.door.floors ≡ self.old.door.floors)) }
-        ensures held { 0 < self.old.left → IsErr result × (self.new.left + 1 ≡ self.old.left) }
+        ensures refuses { 0 < self.old.left → IsErr result × (self.new.left + 1 ≡ self.old.left) }
         ensures passes { self.old.left ≡ 0 → self.new.left ≡ 0 }
     {
         if self.left == 0 {
             return self.inner.look(headers);
         }
         self.left -= 1;
-        self.held = self.held.saturating_add(1);
+        self.refusals = self.refusals.saturating_add(1);
         Err(Shut)
     }
 
