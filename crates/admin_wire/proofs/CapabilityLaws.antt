@@ -10,7 +10,7 @@ use Rattle.admin_wire.specs.declared.command.CapData.TheVariants.{Limits, Select
 use Rattle.admin_wire.specs.declared.command.RawActions.{RawActions}
 use Rattle.admin_wire.specs.declared.command.RawList.{RawList}
 use Rattle.admin_wire.specs.declared.error.WireErr.{WireErr}
-use Rattle.admin_wire.specs.Capabilities.{limits_of, selectors_of, raw_actions, actions_of, cap_data_of, cap_of}
+use Rattle.admin_wire.specs.Capabilities.{limits_of, selectors_data, raw_actions, actions_of, cap_data_of, cap_of}
 use Rattle.admin_wire.specs.Codes.{limits_cap, selectors_cap, actions_cap}
 use Rattle.admin_wire.specs.Fields.{Field, Spells}
 use Rattle.admin_wire.specs.LaidOut.{IsGoodList, HasCapLayout, IsCapLayout}
@@ -45,8 +45,8 @@ limits_spelled limits bytes rest s =
     ) refl
 
 selectors_spelled : (list : RawList) (bytes rest : List ℕ) → IsGoodList list → Spells bytes (list_fields list) rest
-    → selectors_of bytes ≡ Ok (Selectors list)
-unfolding selectors_of
+    → selectors_data bytes ≡ Ok (Selectors list)
+unfolding selectors_data
 selectors_spelled list bytes rest good s = rw (list_spelled list bytes rest good s) refl
 
 actions_spelled : (given bytes rest : List ℕ) → Spells bytes (actions_fields given) rest
@@ -109,9 +109,9 @@ limits_back limits bytes all h =
     subst (λ (l : LimitParts). Begins bytes (limits_fields l)) is (drop 18 bytes, spelled.spells)
 
 selectors_back : (list : RawList) (bytes : List ℕ) → AreBytes bytes → IsGoodList list
-    → selectors_of bytes ≡ Ok (Selectors list)
+    → selectors_data bytes ≡ Ok (Selectors list)
     → Begins bytes (list_fields list)
-unfolding selectors_of
+unfolding selectors_data
 selectors_back list bytes all good h =
     let step = after_step (list_of bytes) _ (Selectors list) h in
     let is : step.0 ≡ list = cc step.2 in
@@ -139,8 +139,8 @@ limits_id : (cap : CapData) (bytes : List ℕ) → limits_of bytes ≡ Ok cap �
 unfolding limits_of
 limits_id cap bytes h = same_id _ cap (long_enough (length bytes) 18 _ _ cap h).1
 
-selectors_id : (cap : CapData) (bytes : List ℕ) → selectors_of bytes ≡ Ok cap → cap_id cap ≡ selectors_cap
-unfolding selectors_of
+selectors_id : (cap : CapData) (bytes : List ℕ) → selectors_data bytes ≡ Ok cap → cap_id cap ≡ selectors_cap
+unfolding selectors_data
 selectors_id cap bytes h = same_id _ cap (after_step (list_of bytes) _ cap h).2
 
 actions_id : (cap : CapData) (bytes : List ℕ) → actions_of bytes ≡ Ok cap → cap_id cap ≡ actions_cap

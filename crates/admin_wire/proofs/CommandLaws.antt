@@ -14,7 +14,7 @@ use Rattle.admin_wire.specs.declared.opcode.Opcode.TheVariants as opcodes
 use Rattle.admin_wire.specs.Capabilities.{cap_of}
 use Rattle.admin_wire.specs.Codes.{header_size}
 use Rattle.admin_wire.specs.Fields.{Field, Spells}
-use Rattle.admin_wire.specs.Headers.{opcode_of, header_of}
+use Rattle.admin_wire.specs.Headers.{opcode_of, command_header}
 use Rattle.admin_wire.specs.LaidOut.{HasLayout, IsDataLayout, IsLaidOut}
 use Rattle.admin_wire.specs.Layouts.{opcode_for, header_fields, head_fields, bare_head_fields, object_fields, cap_head_fields, cap_id, data_fields}
 use Rattle.admin_wire.specs.Objects.{head_of, bare_head_of, head_and_object}
@@ -182,7 +182,7 @@ pub laid_out_from_read : (bytes : List ℕ) (command : Command) → AreBytes byt
     → IsLaidOut bytes command
 unfolding command_of
 laid_out_from_read bytes command all has h =
-    let step = after_step (header_of bytes) _ command h in
+    let step = after_step (command_header bytes) _ command h in
     let same = opcode_back step.0 (drop header_size bytes) command step.2 in
     let read : data_of (opcode_for command) (drop header_size bytes) ≡ Ok command
     = subst (λ (o : Opcode). data_of o (drop header_size bytes) ≡ Ok command) (sym same) step.2 in
@@ -197,7 +197,7 @@ opcode_from_read : (bytes : List ℕ) (command : Command) → command_of bytes �
     → opcode_of bytes ≡ Some (code_of (opcode_for command))
 unfolding command_of
 opcode_from_read bytes command h =
-    let step = after_step (header_of bytes) _ command h in
+    let step = after_step (command_header bytes) _ command h in
     let same = opcode_back step.0 (drop header_size bytes) command step.2 in
     (sound_header bytes step.0 step.1).opcode_is ∙ ap (λ (o : Opcode). Some (code_of o)) (sym same)
 

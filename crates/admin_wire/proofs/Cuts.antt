@@ -11,7 +11,7 @@ use Rattle.admin_wire.specs.declared.error.WireErr.{WireErr}
 use Rattle.admin_wire.specs.declared.error.WireErr.TheVariants.{ShortData}
 use Rattle.admin_wire.specs.declared.opcode.Opcode.{Opcode}
 use Rattle.admin_wire.specs.declared.opcode.Opcode.TheVariants.{ListQuery, ListUse, CapIds, CapGet, CapSet, Create, Modify, Query, Destroy}
-use Rattle.admin_wire.specs.Capabilities.{limits_of, selectors_of, actions_of, cap_data_of, cap_of}
+use Rattle.admin_wire.specs.Capabilities.{limits_of, selectors_data, actions_of, cap_data_of, cap_of}
 use Rattle.admin_wire.specs.Codes.{limits_cap, selectors_cap, actions_cap, group_type, classifier_type, rule_type}
 use Rattle.admin_wire.specs.Faults.{◌>>=◌}
 use Rattle.admin_wire.specs.Lists.{entry_len, whole_entry, entries_of, raw_list, list_of}
@@ -102,7 +102,7 @@ head_and_object_end bytes =
     (mapped _ (λ (object : ObjData). (head_of bytes, object)) _ _ (object_end (le16_at bytes 0) (drop 16 bytes)))
 
 cap_end : (bytes : List ℕ) → EndsAt (cap_of bytes) (length bytes) (8 + cap_size (le16_at bytes 0) (drop 8 bytes))
-unfolding cap_of cap_data_of limits_of selectors_of actions_of
+unfolding cap_of cap_data_of limits_of selectors_data actions_of
 cap_end bytes =
     let id = le16_at bytes 0 in
     let rest = drop 8 bytes in

@@ -11,12 +11,12 @@ use Rattle.admin_wire.specs.declared.command.ObjHead.{ObjHead}
 use Rattle.admin_wire.specs.declared.command.RawKey.TheVariants as keys
 use Rattle.admin_wire.specs.declared.command.RawList.TheVariants as lists
 use Rattle.admin_wire.specs.declared.error.WireErr.TheVariants as faults
-use Rattle.admin_wire.specs.Capabilities.{limits_of, selectors_of, raw_actions, actions_of, cap_data_of, cap_of}
-use Rattle.admin_wire.specs.Headers.{opcode_of, header_of}
+use Rattle.admin_wire.specs.Capabilities.{limits_of, selectors_data, raw_actions, actions_of, cap_data_of, cap_of}
+use Rattle.admin_wire.specs.Headers.{opcode_of, command_header}
 use Rattle.admin_wire.specs.Layouts.{command_bytes}
 use Rattle.admin_wire.specs.Lists.{whole_entry, entries_of, selector_of, raw_list, list_of}
 use Rattle.admin_wire.specs.Objects.{head_of, bare_head_of, group_of, classifier_of, raw_key, rule_of, object_of, head_and_object}
-use Rattle.admin_wire.specs.Replies.{whole_reply, reply_bytes, reply_of}
+use Rattle.admin_wire.specs.Replies.{whole_reply, reply_bytes, reply_spelled}
 use Rattle.admin_wire.specs.Wire.{list_use_of, cap_get_of, query_of, destroy_of, data_of, command_of, Reads, IsBad}
 
 -- ---- parts
@@ -88,35 +88,35 @@ cap n = n ∷ 8 ∷ replicate 6 0
 -- ---- commands
 
 list_query : Reads (header 0) ListQuery
-unfolding command_of header_of opcode_of data_of le16_at le64_at
+unfolding command_of command_header opcode_of data_of le16_at le64_at
 list_query = refl
 
 list_use : Reads (header 1 ++ (0x83 ∷ 0x3f ∷ replicate 6 0)) (ListUse 0x3f83)
-unfolding command_of header_of opcode_of data_of list_use_of le16_at le64_at
+unfolding command_of command_header opcode_of data_of list_use_of le16_at le64_at
 list_use = refl
 
 cap_ids : Reads (header 7) CapIds
-unfolding command_of header_of opcode_of data_of le16_at le64_at
+unfolding command_of command_header opcode_of data_of le16_at le64_at
 cap_ids = refl
 
 cap_get : Reads (header 8 ++ cap 1) (CapGet 0x801)
-unfolding command_of header_of opcode_of data_of cap_get_of le16_at le64_at
+unfolding command_of command_header opcode_of data_of cap_get_of le16_at le64_at
 cap_get = refl
 
 -- 18 bytes of limits are enough
 set_limits : Reads (header 9 ++ cap 0 ++ few_bytes) (CapSet (caps.Limits few))
-unfolding command_of header_of opcode_of data_of cap_of cap_data_of limits_of le16_at le32_at le64_at
+unfolding command_of command_header opcode_of data_of cap_of cap_data_of limits_of le16_at le32_at le64_at
 set_limits = refl
 
 set_selectors : Reads (header 9 ++ cap 1 ++ (1 ∷ replicate 7 0) ++ entry type_mask)
     (CapSet (caps.Selectors (lists.Good (record { items = record { kind = Eth; flags = 0; mask = type_mask } ∷ [] }))))
-unfolding command_of header_of opcode_of data_of cap_of cap_data_of selectors_of list_of whole_entry entries_of raw_list selector_of le16_at le64_at
+unfolding command_of command_header opcode_of data_of cap_of cap_data_of selectors_data list_of whole_entry entries_of raw_list selector_of le16_at le64_at
 set_selectors = refl
 
 -- actions in any order, and a byte that is none
 set_actions : Reads (header 9 ++ cap 2 ++ (2 ∷ replicate 7 0) ++ (2 ∷ 1 ∷ []))
     (CapSet (caps.Actions (record { drop = true; queue = true; other = false })))
-unfolding command_of header_of opcode_of data_of cap_of cap_data_of actions_of raw_actions le16_at le64_at
+unfolding command_of command_header opcode_of data_of cap_of cap_data_of actions_of raw_actions le16_at le64_at
 set_actions = refl
 
 other_action : actions_of (2 ∷ replicate 7 0 ++ (1 ∷ 3 ∷ [])) ≡ Ok (caps.Actions (record { drop = true; queue = false; other = true }))
@@ -125,38 +125,38 @@ other_action = refl
 
 -- an unknown capability ends with its id
 set_other : Reads (header 9 ++ cap 3) (CapSet (caps.Other 0x803))
-unfolding command_of header_of opcode_of data_of cap_of cap_data_of le16_at le64_at
+unfolding command_of command_header opcode_of data_of cap_of cap_data_of le16_at le64_at
 set_other = refl
 
 create_group : Reads group_bytes group
-unfolding command_of header_of opcode_of data_of head_and_object head_of object_of group_of le16_at le32_at le64_at
+unfolding command_of command_header opcode_of data_of head_and_object head_of object_of group_of le16_at le32_at le64_at
 create_group = refl
 
 create_classifier : Reads classifier_bytes classifier
-unfolding command_of header_of opcode_of data_of head_and_object head_of object_of classifier_of list_of whole_entry entries_of raw_list selector_of le16_at le32_at le64_at
+unfolding command_of command_header opcode_of data_of head_and_object head_of object_of classifier_of list_of whole_entry entries_of raw_list selector_of le16_at le32_at le64_at
 create_classifier = refl
 
 create_rule : Reads rule_bytes rule
-unfolding command_of header_of opcode_of data_of head_and_object head_of object_of rule_of raw_key le16_at le32_at le64_at
+unfolding command_of command_header opcode_of data_of head_and_object head_of object_of rule_of raw_key le16_at le32_at le64_at
 create_rule = refl
 
 modify_group : Reads (header 0xb ++ head 0 1 ++ (5 ∷ 0 ∷ [])) (Modify (object_head 0x200 1) (Group 5))
-unfolding command_of header_of opcode_of data_of head_and_object head_of object_of group_of le16_at le32_at le64_at
+unfolding command_of command_header opcode_of data_of head_and_object head_of object_of group_of le16_at le32_at le64_at
 modify_group = refl
 
 -- a query has flags
 query_rule : Reads (header 0xc ++ bare_head 2 9 ++ (1 ∷ replicate 7 0)) (Query (record { type_code = 0x202; id = 9; flags = 1 }))
-unfolding command_of header_of opcode_of data_of query_of head_of le16_at le32_at le64_at
+unfolding command_of command_header opcode_of data_of query_of head_of le16_at le32_at le64_at
 query_rule = refl
 
 -- a destroy has none, whatever follows its head
 destroy_rule : Reads (header 0xd ++ bare_head 2 9 ++ (1 ∷ replicate 7 0)) (Destroy (object_head 0x202 9))
-unfolding command_of header_of opcode_of data_of destroy_of bare_head_of le16_at le32_at le64_at
+unfolding command_of command_header opcode_of data_of destroy_of bare_head_of le16_at le32_at le64_at
 destroy_rule = refl
 
 -- an object of unknown type ends with its flags
 create_other : Reads (header 0xa ++ head 3 1) (Create (object_head 0x203 1) Other)
-unfolding command_of header_of opcode_of data_of head_and_object head_of object_of le16_at le32_at le64_at
+unfolding command_of command_header opcode_of data_of head_and_object head_of object_of le16_at le32_at le64_at
 create_other = refl
 
 -- numbers take all their bytes, and reserved bytes and what follows count for nothing
@@ -165,7 +165,7 @@ create_numbers : Reads
     ++ (0 ∷ 2 ∷ 255 ∷ 255 ∷ 1 ∷ 2 ∷ 3 ∷ 4 ∷ [] ++ (1 ∷ 2 ∷ 3 ∷ 4 ∷ 5 ∷ 6 ∷ 7 ∷ 8 ∷ []))
     ++ (1 ∷ 2 ∷ 255 ∷ 255 ∷ []))
     (Create (record { type_code = 0x200; id = 0x04030201; flags = 0x0807060504030201 }) (Group 0x0201))
-unfolding command_of header_of opcode_of data_of head_and_object head_of object_of group_of le16_at le32_at le64_at
+unfolding command_of command_header opcode_of data_of head_and_object head_of object_of group_of le16_at le32_at le64_at
 create_numbers = refl
 
 -- ---- the bytes that are written
@@ -194,45 +194,45 @@ destroy_written = refl
 
 -- a header that lacks one byte, whatever its opcode
 short_header : IsBad (replicate 23 255) faults.ShortHeader
-unfolding command_of header_of opcode_of
+unfolding command_of command_header opcode_of
 short_header = refl
 
 -- the opcode comes before the group type, and that before the member id
 unknown_opcode : IsBad (2 ∷ replicate 23 255) (faults.Opcode 0xff02)
-unfolding command_of header_of opcode_of le16_at
+unfolding command_of command_header opcode_of le16_at
 unknown_opcode = refl
 
 no_sixth_opcode : IsBad (header 6) (faults.Opcode 6)
-unfolding command_of header_of opcode_of le16_at
+unfolding command_of command_header opcode_of le16_at
 no_sixth_opcode = refl
 
 other_group : IsBad (13 ∷ 0 ∷ replicate 22 255) (faults.Group 0xffff)
-unfolding command_of header_of opcode_of le16_at
+unfolding command_of command_header opcode_of le16_at
 other_group = refl
 
 other_member : IsBad (0 ∷ replicate 15 0 ++ replicate 8 255) (faults.Member 0xffff_ffff_ffff_ffff)
-unfolding command_of header_of opcode_of le16_at le64_at
+unfolding command_of command_header opcode_of le16_at le64_at
 other_member = refl
 
 -- one byte is missing
 short_limits : IsBad (header 9 ++ cap 0 ++ replicate 17 0) faults.ShortData
-unfolding command_of header_of opcode_of data_of cap_of cap_data_of limits_of le16_at le64_at
+unfolding command_of command_header opcode_of data_of cap_of cap_data_of limits_of le16_at le64_at
 short_limits = refl
 
 short_cap : IsBad (header 9 ++ (3 ∷ 8 ∷ replicate 5 0)) faults.ShortData
-unfolding command_of header_of opcode_of data_of cap_of le16_at le64_at
+unfolding command_of command_header opcode_of data_of cap_of le16_at le64_at
 short_cap = refl
 
 short_flags : IsBad (header 0xc ++ replicate 15 0) faults.ShortData
-unfolding command_of header_of opcode_of data_of query_of le16_at le64_at
+unfolding command_of command_header opcode_of data_of query_of le16_at le64_at
 short_flags = refl
 
 short_head : IsBad (header 0xd ++ replicate 7 0) faults.ShortData
-unfolding command_of header_of opcode_of data_of destroy_of le16_at le64_at
+unfolding command_of command_header opcode_of data_of destroy_of le16_at le64_at
 short_head = refl
 
 short_group : IsBad (header 0xa ++ head 0 1 ++ (5 ∷ [])) faults.ShortData
-unfolding command_of header_of opcode_of data_of head_and_object head_of object_of group_of le16_at le32_at le64_at
+unfolding command_of command_header opcode_of data_of head_and_object head_of object_of group_of le16_at le32_at le64_at
 short_group = refl
 
 -- ---- lists, keys
@@ -286,15 +286,15 @@ reply_none : reply_bytes (record { status = 0; qualifier = 0; result = record { 
 reply_none = refl
 
 -- reserved bytes count for nothing
-reply_read : reply_of (22 ∷ 0 ∷ 3 ∷ 0 ∷ replicate 4 255 ++ (9 ∷ []))
+reply_read : reply_spelled (22 ∷ 0 ∷ 3 ∷ 0 ∷ replicate 4 255 ++ (9 ∷ []))
     ≡ Some (record { status = 22; qualifier = 3; result = record { items = 9 ∷ [] } })
-unfolding reply_of le16_at
+unfolding reply_spelled le16_at
 reply_read = refl
 
-too_few : reply_of (replicate 7 0) ≡ None
-unfolding reply_of
+too_few : reply_spelled (replicate 7 0) ≡ None
+unfolding reply_spelled
 too_few = refl
 
-too_many : reply_of (replicate 273 0) ≡ None
-unfolding reply_of
+too_many : reply_spelled (replicate 273 0) ≡ None
+unfolding reply_spelled
 too_many = refl

@@ -13,7 +13,7 @@ use Rattle.admin_wire.specs.declared.error.WireErr.TheVariants.{ShortHeader, Opc
 use Rattle.admin_wire.specs.declared.opcode.Opcode.{Opcode as Opcodes}
 use Rattle.admin_wire.specs.Codes.{header_size, self_group, self_member}
 use Rattle.admin_wire.specs.Faults.{◌>>=◌}
-use Rattle.admin_wire.specs.Headers.{opcode_of, header_of}
+use Rattle.admin_wire.specs.Headers.{opcode_of, command_header}
 use Rattle.admin_wire.specs.Needs.{needs, IsFault, HasOpcode}
 use Rattle.admin_wire.specs.Opcodes.{code_of, opcodes, opcode_codes, opcode_with}
 use Rattle.admin_wire.specs.Wire.{data_of, command_of}
@@ -112,8 +112,8 @@ known_fault bytes code fault read h = ⊎_elim
     self_fault bytes known.0 fault (read ∙ ap Some code_is) known.2)
     (split (ok_or (opcode_with code) (Opcode code)) _ fault h)
 
-header_fault : (bytes : List ℕ) (fault : WireErr) → header_of bytes ≡ Err fault → IsFault bytes fault
-unfolding header_of
+header_fault : (bytes : List ℕ) (fault : WireErr) → command_header bytes ≡ Err fault → IsFault bytes fault
+unfolding command_header
 header_fault bytes fault h = ⊎_elim
     (λ (short : ok_or (opcode_of bytes) ShortHeader ≡ Err fault).
     let none = missing (opcode_of bytes) ShortHeader fault short in
@@ -122,7 +122,7 @@ header_fault bytes fault h = ⊎_elim
     known_fault bytes read.0 fault (ok_or_ok (opcode_of bytes) ShortHeader read.0 read.1) read.2)
     (split (ok_or (opcode_of bytes) ShortHeader) _ fault h)
 
-data_fault : (bytes : List ℕ) (opcode : Opcodes) (fault : WireErr) → header_of bytes ≡ Ok opcode
+data_fault : (bytes : List ℕ) (opcode : Opcodes) (fault : WireErr) → command_header bytes ≡ Ok opcode
     → data_of opcode (drop header_size bytes) ≡ Err fault → IsFault bytes fault
 data_fault bytes opcode fault header h =
     let ends = data_end opcode (drop header_size bytes) in
@@ -140,10 +140,10 @@ data_fault bytes opcode fault header h =
 pub fault_from_read : (bytes : List ℕ) (fault : WireErr) → command_of bytes ≡ Err fault → IsFault bytes fault
 unfolding command_of
 fault_from_read bytes fault h = ⊎_elim
-    (λ (header : header_of bytes ≡ Err fault). header_fault bytes fault header)
-    (λ (sound : (opcode : Opcodes) × (header_of bytes ≡ Ok opcode) × (data_of opcode (drop header_size bytes) ≡ Err fault)).
+    (λ (header : command_header bytes ≡ Err fault). header_fault bytes fault header)
+    (λ (sound : (opcode : Opcodes) × (command_header bytes ≡ Ok opcode) × (data_of opcode (drop header_size bytes) ≡ Err fault)).
     data_fault bytes sound.0 fault sound.1 sound.2)
-    (split (header_of bytes) (λ opcode. data_of opcode (drop header_size bytes)) fault h)
+    (split (command_header bytes) (λ opcode. data_of opcode (drop header_size bytes)) fault h)
 
 -- ---- from a condition to its fault
 
@@ -152,7 +152,7 @@ unfolding opcode_of
 short_none bytes short = rw (lt-ltb (length bytes) header_size short) refl
 
 pub read_from_fault : (bytes : List ℕ) (fault : WireErr) → IsFault bytes fault → command_of bytes ≡ Err fault
-unfolding command_of header_of
+unfolding command_of command_header
 read_from_fault bytes ShortHeader is = rw (short_none bytes is) refl
 read_from_fault bytes (Opcode n) is = rw (is.0, unknown_from_none n is.1) refl
 read_from_fault bytes (Group n) is = rw (is.1, opcode_with-code_of is.0, is.2, ne_eqb n self_group is.3) refl

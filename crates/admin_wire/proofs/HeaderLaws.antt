@@ -9,7 +9,7 @@ use Rattle.admin_wire.specs.declared.opcode.Opcode.{Opcode}
 use Rattle.admin_wire.specs.declared.opcode.Opcode.TheVariants.{ListQuery, ListUse, CapIds, CapGet, CapSet, Create, Modify, Query, Destroy}
 use Rattle.admin_wire.specs.Codes.{header_size, self_group, self_member}
 use Rattle.admin_wire.specs.Fields.{Spells}
-use Rattle.admin_wire.specs.Headers.{opcode_of, header_of}
+use Rattle.admin_wire.specs.Headers.{opcode_of, command_header}
 use Rattle.admin_wire.specs.Layouts.{header_fields}
 use Rattle.admin_wire.specs.Opcodes.{code_of, opcodes, opcode_with}
 use Rattle.admin_wire.proofs.Reading.{equal_numbers, after_step, ok_or_ok, find_passes}
@@ -48,8 +48,8 @@ opcode_back bytes code h = whole_back (length bytes) (le16_at bytes 0) code h
 
 -- what is laid out as a header is sound
 pub header_spelled : (opcode : Opcode) (bytes mid : List ℕ) → Spells bytes (header_fields opcode) mid
-    → (header_of bytes ≡ Ok opcode) × (drop header_size bytes ≡ mid)
-unfolding header_of opcode_of
+    → (command_header bytes ≡ Ok opcode) × (drop header_size bytes ≡ mid)
+unfolding command_header opcode_of
 header_spelled opcode bytes mid s =
     let code = number_16 (Left-start bytes (header_fields opcode) mid s) in
     let group = number_16 code.1 in
@@ -65,8 +65,8 @@ pub record SoundHeader (bytes : List ℕ) (opcode : Opcode) : Type 0 where
   pub group : le16_at bytes 2 ≡ self_group
   pub member : le64_at bytes 16 ≡ self_member
 
-pub sound_header : (bytes : List ℕ) (opcode : Opcode) → header_of bytes ≡ Ok opcode → SoundHeader bytes opcode
-unfolding header_of
+pub sound_header : (bytes : List ℕ) (opcode : Opcode) → command_header bytes ≡ Ok opcode → SoundHeader bytes opcode
+unfolding command_header
 sound_header bytes opcode h =
     let number = after_step (ok_or (opcode_of bytes) faults.ShortHeader) _ opcode h in
     let known = after_step (ok_or (opcode_with number.0) (faults.Opcode number.0)) _ opcode number.2 in
@@ -80,7 +80,7 @@ sound_header bytes opcode h =
     record { whole = here.0; opcode_is = there ∙ ap Some code; code = here.1 ∙ code; group = group.0; member = member.0 }
 
 -- a sound header is laid out
-pub header_back : (bytes : List ℕ) (opcode : Opcode) → AreBytes bytes → header_of bytes ≡ Ok opcode
+pub header_back : (bytes : List ℕ) (opcode : Opcode) → AreBytes bytes → command_header bytes ≡ Ok opcode
     → Spells bytes (header_fields opcode) (drop header_size bytes)
 header_back bytes opcode all h =
     let sound = sound_header bytes opcode h in

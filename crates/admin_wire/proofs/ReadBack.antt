@@ -8,7 +8,7 @@ use Rattle.admin_wire.specs.declared.command.Command.TheVariants.{ListQuery, Lis
 use Rattle.admin_wire.specs.declared.command.RawActions.{RawActions}
 use Rattle.admin_wire.specs.declared.opcode.Opcode.{Opcode}
 use Rattle.admin_wire.specs.Capabilities.{raw_actions}
-use Rattle.admin_wire.specs.Fields.{Field, number, reserved, raw, Spells, written, AreFitting, Writes}
+use Rattle.admin_wire.specs.Fields.{Field, number, reserved, raw, Spells, written, AreFitting, WritesFields}
 use Rattle.admin_wire.specs.LaidOut.{HasCapBytes, HasBytes, HasLayout, IsCapLayout, IsDataLayout}
 use Rattle.admin_wire.specs.Layouts.{opcode_for, header_fields, action_bytes, cap_fields, data_fields, command_fields, command_bytes}
 use Rattle.admin_wire.specs.Wire.{command_of}
@@ -50,12 +50,12 @@ data_layout (Destroy head) has = refl
 
 -- what is written of a command, header first, reads as it
 pub written_reads : (none out : List ℕ) (opcode : Opcode) (command : Command) → none ≡ [] → opcode ≡ opcode_for command
-    → Writes none (header_fields opcode ++ data_fields command) out → HasBytes command → HasLayout command
+    → WritesFields none (header_fields opcode ++ data_fields command) out → HasBytes command → HasLayout command
     → command_of out ≡ Ok command
 written_reads none out opcode command empty is writes known has =
-    let whole : Writes [] (command_fields command) out
-    = subst (λ (xs : List ℕ). Writes xs (command_fields command) out) empty
-    (subst (λ (o : Opcode). Writes none (header_fields o ++ data_fields command) out) is writes) in
+    let whole : WritesFields [] (command_fields command) out
+    = subst (λ (xs : List ℕ). WritesFields xs (command_fields command) out) empty
+    (subst (λ (o : Opcode). WritesFields none (header_fields o ++ data_fields command) out) is writes) in
     rw whole.bytes (
     command_laid_out (command_bytes command) command has
     (data_fields command, [], data_layout command known, written_spells (command_fields command) whole.fits)

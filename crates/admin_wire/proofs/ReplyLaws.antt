@@ -5,7 +5,7 @@ use Rattle.byte_numbers.specs.Numbers.{le16_at}
 use Rattle.byte_numbers.proofs.NumberLaws.{le16_at-bytes}
 use Rattle.admin_wire.specs.declared.reply.Reply.{Reply}
 use Rattle.admin_wire.specs.Codes.{reply_head_size, most_reply_bytes}
-use Rattle.admin_wire.specs.Replies.{whole_reply, reply_of, IsReply}
+use Rattle.admin_wire.specs.Replies.{whole_reply, reply_spelled, IsReply}
 
 pub whole_reply-length : (reply : Reply) → length (whole_reply reply) ≡ reply_head_size + length reply.result.items
 unfolding whole_reply
@@ -23,8 +23,8 @@ result_back : (reply : Reply) → drop reply_head_size (whole_reply reply) ≡ r
 unfolding whole_reply
 result_back reply = refl
 
-pub reply_back : (reply : Reply) → IsReply reply → reply_of (whole_reply reply) ≡ Some reply
-unfolding reply_of
+pub reply_back : (reply : Reply) → IsReply reply → reply_spelled (whole_reply reply) ≡ Some reply
+unfolding reply_spelled
 reply_back reply is =
     let size = whole_reply-length reply in
     let fits = is.result_fits in
@@ -40,14 +40,14 @@ reply_back reply is =
 abbrev pub IsNoReply : List ℕ → Type 0
 IsNoReply bytes = (length bytes < reply_head_size) ⊎ (most_reply_bytes < length bytes)
 
-pub no_reply : (bytes : List ℕ) → IsNoReply bytes → reply_of bytes ≡ None
-unfolding reply_of
+pub no_reply : (bytes : List ℕ) → IsNoReply bytes → reply_spelled bytes ≡ None
+unfolding reply_spelled
 no_reply bytes (inl few) = rw (lt-ltb (length bytes) reply_head_size few) refl
 no_reply bytes (inr many) =
     rw (le-ltb (length bytes) reply_head_size (omega arith), lt-ltb most_reply_bytes (length bytes) many) refl
 
-pub no_reply_back : (bytes : List ℕ) → reply_of bytes ≡ None → IsNoReply bytes
-unfolding reply_of
+pub no_reply_back : (bytes : List ℕ) → reply_spelled bytes ≡ None → IsNoReply bytes
+unfolding reply_spelled
 no_reply_back bytes none = ⊎_elim
     (λ (few : length bytes < reply_head_size). inl few)
     (λ (enough : reply_head_size ≤ length bytes).

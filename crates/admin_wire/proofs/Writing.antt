@@ -5,7 +5,7 @@ use Rattle.std.proofs.lemmas.Grind.{flat_map-append}
 use Rattle.std.proofs.lemmas.List.{take_more}
 use Rattle.std.proofs.lemmas.List.Folds.{length-flat_map-take}
 use Rattle.ff_headers.specs.SelectorParts.{SelectorParts}
-use Rattle.admin_wire.specs.Fields.{Field, number, reserved, raw, field_bytes, written, AreFitting, Writes}
+use Rattle.admin_wire.specs.Fields.{Field, number, reserved, raw, field_bytes, written, AreFitting, WritesFields}
 use Rattle.admin_wire.specs.Layouts.{selector_fields}
 
 pub written-append : (fields more : List Field) → written (fields ++ more) ≡ written fields ++ written more
@@ -17,13 +17,13 @@ AreFitting-append (number width n ∷ fields) more first second = (first.0, AreF
 AreFitting-append (reserved count ∷ fields) more first second = AreFitting-append fields more first second
 AreFitting-append (raw given ∷ fields) more first second = AreFitting-append fields more first second
 
-pub Writes-none : (old : List ℕ) → Writes old [] old
-Writes-none old = record { bytes = sym (append-nil old); size = omega arith; fits = tt }
+pub WritesFields-none : (old : List ℕ) → WritesFields old [] old
+WritesFields-none old = record { bytes = sym (append-nil old); size = omega arith; fits = tt }
 
 -- some fields, and then others
-pub Writes-more : {old mid new : List ℕ} {fields more : List Field} → Writes old fields mid → Writes mid more new
-    → Writes old (fields ++ more) new
-Writes-more {old} {mid} {new} {fields} {more} first second =
+pub WritesFields-more : {old mid new : List ℕ} {fields more : List Field} → WritesFields old fields mid → WritesFields mid more new
+    → WritesFields old (fields ++ more) new
+WritesFields-more {old} {mid} {new} {fields} {more} first second =
     let joined = written-append fields more in
     record {
       bytes = second.bytes ∙ ap (λ xs. xs ++ written more) first.bytes ∙ append_assoc old (written fields) (written more)

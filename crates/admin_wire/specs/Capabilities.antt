@@ -27,8 +27,8 @@ limits_of bytes =
     }))
 
 -- a list of selectors
-unfoldable pub selectors_of : List ℕ → Result CapData WireErr
-selectors_of bytes = do
+unfoldable pub selectors_data : List ℕ → Result CapData WireErr
+selectors_data bytes = do
   list ← list_of bytes
   Ok (Selectors list)
 
@@ -54,7 +54,7 @@ actions_of bytes =
 unfoldable pub cap_data_of : ℕ → List ℕ → Result CapData WireErr
 cap_data_of id bytes =
     if id == limits_cap then limits_of bytes
-    else if id == selectors_cap then selectors_of bytes
+    else if id == selectors_cap then selectors_data bytes
     else if id == actions_cap then actions_of bytes
     else Ok (Other id)
 

@@ -36,7 +36,7 @@ AreFitting (reserved count ∷ fields) = AreFitting fields
 AreFitting (raw given ∷ fields) = AreFitting fields
 
 -- new is old with the bytes of these fields behind it, and each number has its width
-pub record Writes (old : List ℕ) (fields : List Field) (new : List ℕ) : Type 0 where
+pub record WritesFields (old : List ℕ) (fields : List Field) (new : List ℕ) : Type 0 where
   pub bytes : new ≡ old ++ written fields
   pub size : length new ≡ length old + length (written fields)
   pub fits : AreFitting fields

@@ -16,8 +16,8 @@ opcode_of bytes = if nat_lt (length bytes) header_size then None else Some (le16
 
 -- the opcode that a header gives, or the header's first fault: it is cut, its opcode is none of the nine, its group
 -- type or its member id isn't 0
-unfoldable pub header_of : List ℕ → Result Opcode WireErr
-header_of bytes = do
+unfoldable pub command_header : List ℕ → Result Opcode WireErr
+command_header bytes = do
   code ← ok_or (opcode_of bytes) faults.ShortHeader
   opcode ← ok_or (opcode_with code) (faults.Opcode code)
   if not (le16_at bytes 2 == self_group) then Err (faults.Group (le16_at bytes 2))

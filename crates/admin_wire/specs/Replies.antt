@@ -16,8 +16,8 @@ abbrev pub reply_bytes : Reply → ℕ → List ℕ
 reply_bytes reply room = if nat_lt room reply_head_size then [] else take room (whole_reply reply)
 
 -- the reply that whole bytes are, where they are not too few or too many; reserved bytes are not looked at
-unfoldable pub reply_of : List ℕ → Option Reply
-reply_of bytes =
+unfoldable pub reply_spelled : List ℕ → Option Reply
+reply_spelled bytes =
     if nat_lt (length bytes) reply_head_size || nat_lt most_reply_bytes (length bytes) then None
     else Some (record {
       status = le16_at bytes 0;

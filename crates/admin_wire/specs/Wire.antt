@@ -12,7 +12,7 @@ use Rattle.admin_wire.specs.declared.opcode.Opcode.TheVariants as opcodes
 use Rattle.admin_wire.specs.Capabilities.{cap_of}
 use Rattle.admin_wire.specs.Codes.{header_size, bitmap_size, cap_head_size, head_size, bare_head_size}
 use Rattle.admin_wire.specs.Faults.{◌>>=◌}
-use Rattle.admin_wire.specs.Headers.{header_of}
+use Rattle.admin_wire.specs.Headers.{command_header}
 use Rattle.admin_wire.specs.Objects.{head_of, bare_head_of, head_and_object}
 
 -- le64 bitmap
@@ -52,7 +52,7 @@ data_of opcodes.Destroy bytes = destroy_of bytes
 -- the command that the bytes lay out, or their first fault: that of the header, or that the data is cut
 unfoldable pub command_of : List ℕ → Result Command WireErr
 command_of bytes = do
-  opcode ← header_of bytes
+  opcode ← command_header bytes
   data_of opcode (drop header_size bytes)
 
 -- the bytes have the layout of the command

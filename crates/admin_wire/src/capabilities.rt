@@ -2,9 +2,9 @@
 
 ghost use Rattle.std.specs.Prelude.{◌≡◌, ◌+◌, ◌≤◌, ◌++◌, length};
 ghost use Rattle.std.specs.List.{list_any};
-ghost use Rattle.admin_wire.specs.Capabilities.{is_other_action, limits_of, selectors_of, raw_actions, actions_of, cap_data_of, cap_of};
+ghost use Rattle.admin_wire.specs.Capabilities.{is_other_action, limits_of, selectors_data, raw_actions, actions_of, cap_data_of, cap_of};
 ghost use Rattle.admin_wire.specs.Codes.{cap_head_size, limits_size, list_head_size, most_command_bytes};
-ghost use Rattle.admin_wire.specs.Fields.{Writes, written};
+ghost use Rattle.admin_wire.specs.Fields.{WritesFields, written};
 ghost use Rattle.admin_wire.specs.LaidOut.{HasCapBytes, HasCapLayout};
 ghost use Rattle.admin_wire.specs.Layouts.{cap_id, cap_head_fields, limits_fields, actions_fields, action_bytes, cap_fields};
 
@@ -39,9 +39,9 @@ fn limits_of(bytes: &[u8]) -> Result<CapData, WireErr>
 }
 
 /// A list of selectors.
-#[tactic(auto, unfolding(crate::specs::Capabilities::selectors_of))]
-fn selectors_of(bytes: &[u8]) -> Result<CapData, WireErr>
-    ensures { result ≡ selectors_of bytes.now }
+#[tactic(auto, unfolding(crate::specs::Capabilities::selectors_data))]
+fn selectors_data(bytes: &[u8]) -> Result<CapData, WireErr>
+    ensures { result ≡ selectors_data bytes.now }
 {
     let list = list_of(bytes)?;
     Ok(CapData::Selectors(list))
@@ -91,7 +91,7 @@ fn cap_data_of(id: u16, bytes: &[u8]) -> Result<CapData, WireErr>
 {
     match id {
         VIRTIO_NET_FF_RESOURCE_CAP => limits_of(bytes),
-        VIRTIO_NET_FF_SELECTOR_CAP => selectors_of(bytes),
+        VIRTIO_NET_FF_SELECTOR_CAP => selectors_data(bytes),
         VIRTIO_NET_FF_ACTION_CAP => actions_of(bytes),
         _ => Ok(CapData::Other(id)),
     }
@@ -123,7 +123,7 @@ fn cap_id(cap: &CapData) -> u16
 /// Appends a capability's id.
 pub(crate) fn put_cap_head(bytes: &mut CommandBytes, id: u16)
     requires { length bytes.old.items + cap_head_size ≤ most_command_bytes }
-    ensures { Writes bytes.old.items (cap_head_fields id) bytes.new.items }
+    ensures { WritesFields bytes.old.items (cap_head_fields id) bytes.new.items }
 {
     put_16(bytes, id);
     put_reserved::<6>(bytes);
@@ -132,7 +132,7 @@ pub(crate) fn put_cap_head(bytes: &mut CommandBytes, id: u16)
 /// Appends a set of limits.
 fn put_limits(bytes: &mut CommandBytes, limits: &Limits)
     requires { length bytes.old.items + limits_size ≤ most_command_bytes }
-    ensures { Writes bytes.old.items (limits_fields limits.now) bytes.new.items }
+    ensures { WritesFields bytes.old.items (limits_fields limits.now) bytes.new.items }
 {
     put_32(bytes, limits.groups);
     put_32(bytes, limits.classifiers);
@@ -159,7 +159,7 @@ fn action_bytes(actions: RawActions) -> ArrayVec<u8, 2>
 /// Appends a list of actions.
 fn put_actions(bytes: &mut CommandBytes, actions: RawActions)
     requires { length bytes.old.items + list_head_size + length (action_bytes actions) ≤ most_command_bytes }
-    ensures { Writes bytes.old.items (actions_fields (action_bytes actions)) bytes.new.items }
+    ensures { WritesFields bytes.old.items (actions_fields (action_bytes actions)) bytes.new.items }
 {
     let given = action_bytes(actions);
     put_8(bytes, given.len() as u8);
@@ -170,7 +170,8 @@ fn put_actions(bytes: &mut CommandBytes, actions: RawActions)
 /// Appends a capability: its id and its data.
 pub(crate) fn put_cap(bytes: &mut CommandBytes, cap: &CapData)
     requires { length bytes.old.items + cap_head_size + length (written (cap_fields cap.now)) ≤ most_command_bytes }
-    ensures writes { Writes bytes.old.items (cap_head_fields (cap_id cap.now) ++ cap_fields cap.now) bytes.new.items }
+    ensures writes { let fields = cap_head_fields (cap_id cap.now) ++ cap_fields cap.now in
+        WritesFields bytes.old.items fields bytes.new.items }
     ensures layout { HasCapBytes cap.now → HasCapLayout cap.now }
 {
     put_cap_head(bytes, cap_id(cap));

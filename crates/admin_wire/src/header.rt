@@ -2,8 +2,8 @@
 
 ghost use Rattle.std.specs.Prelude.{◌≡◌, ◌+◌, ◌≤◌, length, OnOk};
 ghost use Rattle.admin_wire.specs.Codes.{header_size, most_command_bytes};
-ghost use Rattle.admin_wire.specs.Fields.{Writes};
-ghost use Rattle.admin_wire.specs.Headers.{opcode_of, header_of};
+ghost use Rattle.admin_wire.specs.Fields.{WritesFields};
+ghost use Rattle.admin_wire.specs.Headers.{opcode_of, command_header};
 ghost use Rattle.admin_wire.specs.Layouts.{header_fields};
 
 use crate::codes::{HEADER_LEN, SELF_MEMBER, VIRTIO_ADMIN_GROUP_TYPE_SELF};
@@ -25,9 +25,9 @@ pub fn opcode_of(bytes: &[u8]) -> Option<u16>
 }
 
 /// The opcode that a header gives, or the header's first fault.
-#[tactic(auto, unfolding(crate::specs::Headers::header_of, crate::specs::Headers::opcode_of))]
-pub(crate) fn header_of(bytes: &[u8]) -> Result<Opcode, WireErr>
-    ensures value { result ≡ header_of bytes.now }
+#[tactic(auto, unfolding(crate::specs::Headers::command_header, crate::specs::Headers::opcode_of))]
+pub(crate) fn command_header(bytes: &[u8]) -> Result<Opcode, WireErr>
+    ensures value { result ≡ command_header bytes.now }
     ensures whole { OnOk result (header_size ≤ length bytes.now) }
 {
     let code = opcode_of(bytes).ok_or(WireErr::ShortHeader)?;
@@ -46,7 +46,7 @@ pub(crate) fn header_of(bytes: &[u8]) -> Result<Opcode, WireErr>
 /// Appends the header of a command with this opcode.
 pub(crate) fn put_header(bytes: &mut CommandBytes, opcode: Opcode)
     requires { length bytes.old.items + header_size ≤ most_command_bytes }
-    ensures { Writes bytes.old.items (header_fields opcode) bytes.new.items }
+    ensures { WritesFields bytes.old.items (header_fields opcode) bytes.new.items }
 {
     put_16(bytes, opcode.code());
     put_16(bytes, VIRTIO_ADMIN_GROUP_TYPE_SELF);

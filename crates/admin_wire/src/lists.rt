@@ -2,7 +2,7 @@
 
 ghost use Rattle.std.specs.Prelude.{◌≡◌, ◌+◌, ◌≤◌, length, flat_map, IfOk, All};
 ghost use Rattle.admin_wire.specs.Codes.{entry_head_size, most_command_bytes};
-ghost use Rattle.admin_wire.specs.Fields.{Writes, written};
+ghost use Rattle.admin_wire.specs.Fields.{WritesFields, written};
 ghost use Rattle.admin_wire.specs.LaidOut.{IsKnownList, IsGoodList};
 ghost use Rattle.admin_wire.specs.Layouts.{selector_fields, list_fields};
 ghost use Rattle.ff_headers.specs.SelectorParts.{IsWhole};
@@ -87,7 +87,7 @@ pub(crate) fn list_of(bytes: &[u8]) -> Result<RawList, WireErr>
 /// Appends an entry.
 fn put_selector(bytes: &mut CommandBytes, selector: &Selector)
     requires { length bytes.old.items + entry_head_size + length selector.now.mask ≤ most_command_bytes }
-    ensures writes { Writes bytes.old.items (selector_fields selector.now) bytes.new.items }
+    ensures writes { WritesFields bytes.old.items (selector_fields selector.now) bytes.new.items }
     ensures whole { IsWhole selector.now }
 {
     let mask = selector.mask();
@@ -102,7 +102,7 @@ fn put_selector(bytes: &mut CommandBytes, selector: &Selector)
 /// Appends the entries of a list.
 fn put_entries(bytes: &mut CommandBytes, selectors: &[Selector])
     requires { length bytes.old.items + length (written (flat_map selector_fields selectors.now)) ≤ most_command_bytes }
-    ensures writes { Writes bytes.old.items (flat_map selector_fields selectors.now) bytes.new.items }
+    ensures writes { WritesFields bytes.old.items (flat_map selector_fields selectors.now) bytes.new.items }
     ensures whole { All IsWhole selectors.now }
 {
     for selector in selectors {
@@ -113,7 +113,7 @@ fn put_entries(bytes: &mut CommandBytes, selectors: &[Selector])
 /// Appends a list. One that is odd has no bytes of its own.
 pub(crate) fn put_list(bytes: &mut CommandBytes, list: &RawList)
     requires { length bytes.old.items + length (written (list_fields list.now)) ≤ most_command_bytes }
-    ensures writes { Writes bytes.old.items (list_fields list.now) bytes.new.items }
+    ensures writes { WritesFields bytes.old.items (list_fields list.now) bytes.new.items }
     ensures good { IsKnownList list.now → IsGoodList list.now }
 {
     if let RawList::Good(selectors) = list {

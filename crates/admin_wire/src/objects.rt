@@ -2,7 +2,7 @@
 
 ghost use Rattle.std.specs.Prelude.{◌≡◌, ℕ, ◌+◌, ◌≤◌, length};
 ghost use Rattle.admin_wire.specs.Codes.{bare_head_size, head_size, rule_head_size, most_key_bytes, most_command_bytes};
-ghost use Rattle.admin_wire.specs.Fields.{Writes, written};
+ghost use Rattle.admin_wire.specs.Fields.{WritesFields, written};
 ghost use Rattle.admin_wire.specs.LaidOut.{HasObjectBytes, HasObjectLayout};
 ghost use Rattle.admin_wire.specs.Layouts.{bare_head_fields, head_fields, object_fields, rule_fields, key_bytes};
 ghost use Rattle.admin_wire.specs.Objects.{head_of, bare_head_of, group_of, classifier_of, raw_key, rule_of, object_of, head_and_object};
@@ -129,7 +129,7 @@ pub(crate) fn head_and_object(bytes: &[u8]) -> Result<(ObjHead, ObjData), WireEr
 /// Appends a head without its flags.
 pub(crate) fn put_bare_head(bytes: &mut CommandBytes, head: &ObjHead)
     requires { length bytes.old.items + bare_head_size ≤ most_command_bytes }
-    ensures { Writes bytes.old.items (bare_head_fields head.now) bytes.new.items }
+    ensures { WritesFields bytes.old.items (bare_head_fields head.now) bytes.new.items }
 {
     put_16(bytes, head.type_code);
     put_reserved::<2>(bytes);
@@ -139,7 +139,7 @@ pub(crate) fn put_bare_head(bytes: &mut CommandBytes, head: &ObjHead)
 /// Appends a head with its flags.
 pub(crate) fn put_head(bytes: &mut CommandBytes, head: &ObjHead)
     requires { length bytes.old.items + head_size ≤ most_command_bytes }
-    ensures { Writes bytes.old.items (head_fields head.now) bytes.new.items }
+    ensures { WritesFields bytes.old.items (head_fields head.now) bytes.new.items }
 {
     put_bare_head(bytes, head);
     put_64(bytes, head.flags);
@@ -159,7 +159,7 @@ fn key_bytes(key: &RawKey) -> &[u8]
 /// Appends a rule with its key.
 fn put_rule(bytes: &mut CommandBytes, rule: &RawRule)
     requires { length bytes.old.items + rule_head_size + length (key_bytes rule.now.key) ≤ most_command_bytes }
-    ensures writes { Writes bytes.old.items (rule_fields rule.now (key_bytes rule.now.key)) bytes.new.items }
+    ensures writes { WritesFields bytes.old.items (rule_fields rule.now (key_bytes rule.now.key)) bytes.new.items }
     ensures fits { length (key_bytes rule.now.key) ≤ most_key_bytes }
 {
     let key = key_bytes(&rule.key);
@@ -177,7 +177,7 @@ fn put_rule(bytes: &mut CommandBytes, rule: &RawRule)
 /// Appends the data of an object.
 pub(crate) fn put_object(bytes: &mut CommandBytes, object: &ObjData)
     requires { length bytes.old.items + length (written (object_fields object.now)) ≤ most_command_bytes }
-    ensures writes { Writes bytes.old.items (object_fields object.now) bytes.new.items }
+    ensures writes { WritesFields bytes.old.items (object_fields object.now) bytes.new.items }
     ensures layout { (type_code : ℕ) → HasObjectBytes type_code object.now → HasObjectLayout type_code object.now }
 {
     match object {

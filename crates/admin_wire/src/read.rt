@@ -14,7 +14,7 @@ use crate::capabilities::cap_of;
 use crate::codes::{BARE_HEAD_LEN, BITMAP_LEN, CAP_HEAD_LEN, HEAD_LEN, HEADER_LEN};
 use crate::command::Command;
 use crate::error::WireErr;
-use crate::header::header_of;
+use crate::header::command_header;
 use crate::objects::{bare_head_of, head_and_object, head_of};
 use crate::opcode::Opcode;
 use byte_numbers::{le16_at, le64_at};
@@ -92,7 +92,7 @@ fn data_of(opcode: Opcode, bytes: &[u8]) -> Result<Command, WireErr>
 fn command_of(bytes: &[u8]) -> Result<Command, WireErr>
     ensures { result ≡ command_of bytes.now }
 {
-    let opcode = header_of(bytes)?;
+    let opcode = command_header(bytes)?;
     data_of(opcode, &bytes[HEADER_LEN..])
 }
 

@@ -3,7 +3,7 @@
 ghost use Rattle.std.specs.Prelude.{◌≡◌, ◌<◌, ◌≤◌, ◌↔◌, ◌⊎◌, length, None, Some};
 ghost use Rattle.admin_wire.specs.declared.reply.Reply.{Reply};
 ghost use Rattle.admin_wire.specs.Codes.{reply_head_size, most_reply_bytes};
-ghost use Rattle.admin_wire.specs.Replies.{whole_reply, reply_bytes, reply_of, IsReply};
+ghost use Rattle.admin_wire.specs.Replies.{whole_reply, reply_bytes, reply_spelled, IsReply};
 
 use crate::codes::REPLY_HEAD_LEN;
 use arrayvec::ArrayVec;
@@ -44,7 +44,7 @@ pub fn put_reply(reply: &Reply, room: u64) -> ReplyBytes
     ensures bytes { result.items ≡ reply_bytes reply.now room }
 
     // One that isn't cut reads as this reply.
-    ensures read_back { length (whole_reply reply.now) ≤ room → reply_of result.items ≡ Some reply.now }
+    ensures read_back { length (whole_reply reply.now) ≤ room → reply_spelled result.items ≡ Some reply.now }
 {
     if room < REPLY_HEAD_LEN as u64 {
         return ReplyBytes::new();
@@ -55,9 +55,9 @@ pub fn put_reply(reply: &Reply, room: u64) -> ReplyBytes
 }
 
 /// The reply that bytes are, where they are neither too few nor too many.
-#[tactic(auto, unfolding(crate::specs::Replies::reply_of))]
-fn reply_of(bytes: &[u8]) -> Option<Reply>
-    ensures { result ≡ reply_of bytes.now }
+#[tactic(auto, unfolding(crate::specs::Replies::reply_spelled))]
+fn reply_spelled(bytes: &[u8]) -> Option<Reply>
+    ensures { result ≡ reply_spelled bytes.now }
 {
     if bytes.len() < REPLY_HEAD_LEN {
         return None;
@@ -74,9 +74,9 @@ fn reply_of(bytes: &[u8]) -> Option<Reply>
 /// The reply that whole bytes are. There is none where they are fewer than 8, the size of what stands before the
 /// result, or more than a reply has at most.
 pub fn read_reply(bytes: &[u8]) -> Option<Reply>
-    ensures exact { result ≡ reply_of bytes.now }
+    ensures exact { result ≡ reply_spelled bytes.now }
     ensures none { (result ≡ None) ↔ (length bytes.now < reply_head_size) ⊎ (most_reply_bytes < length bytes.now) }
     ensures whole { (reply : Reply) → IsReply reply → bytes.now ≡ whole_reply reply → result ≡ Some reply }
 {
-    reply_of(bytes)
+    reply_spelled(bytes)
 }

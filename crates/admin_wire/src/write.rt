@@ -2,7 +2,7 @@
 
 ghost use Rattle.std.specs.Prelude.{◌≡◌, ◌+◌, ◌≤◌, Ok, length};
 ghost use Rattle.admin_wire.specs.Codes.{most_command_bytes};
-ghost use Rattle.admin_wire.specs.Fields.{Writes, written};
+ghost use Rattle.admin_wire.specs.Fields.{WritesFields, written};
 ghost use Rattle.admin_wire.specs.LaidOut.{HasBytes, HasLayout};
 ghost use Rattle.admin_wire.specs.Layouts.{command_bytes, data_fields};
 ghost use Rattle.admin_wire.specs.Wire.{command_of};
@@ -17,7 +17,7 @@ use crate::put_field::put_64;
 /// Appends what follows the header.
 fn put_data(bytes: &mut CommandBytes, command: &Command)
     requires { length bytes.old.items + length (written (data_fields command.now)) ≤ most_command_bytes }
-    ensures writes { Writes bytes.old.items (data_fields command.now) bytes.new.items }
+    ensures writes { WritesFields bytes.old.items (data_fields command.now) bytes.new.items }
     ensures layout { HasBytes command.now → HasLayout command.now }
 {
     match command {

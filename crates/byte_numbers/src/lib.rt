@@ -5,8 +5,8 @@
 //! numbers are little endian, the lowest byte first. Captures have numbers of 16 and 32 bits in either order.
 //!
 //! Each call gives the number of the bytes at its place, and needs those bytes to be there. The definitions are in
-//! `specs/Numbers.antt`. What crates above need of them stands in `proofs/NumberLaws.antt`: a number depends on its own
-//! bytes alone, and the bytes of a number give it back.
+//! specs/: `Numbers`, and `Bytes` (what a list of bytes is). What crates above need of them stands in
+//! `proofs/NumberLaws.antt`: a number depends on its own bytes alone, and the bytes of a number give it back.
 #![tactic(auto)]
 
 mod numbers;

@@ -25,7 +25,7 @@ use Rattle.admin_wire.specs.Codes.{drop_action, queue_action, group_type, classi
 use Rattle.admin_wire.specs.Layouts.{key_bytes}
 use Rattle.cap_table.specs.Caps.{CapsParts, DriverParts, AtMost, is_action_set}
 use Rattle.cap_table.specs.States.{QueuesWithin, is_receive_queue}
-use Rattle.cap_table.specs.Verdicts.{first_verdict, command_rows, content_rows, rule_faults, selectors_in, is_named}
+use Rattle.cap_table.specs.Verdicts.{first_verdict, command_rows, content_rows, rule_faults, selectors_in, is_named_by_rule}
 use Rattle.cap_table.specs.Answers.{change_of, put_of, drop_of, rule_parts, action_of_byte}
 use Rattle.cap_table.proofs.RowLemmas.{NoneHolds, IsSoundContent, sound_content, IsClear, clear}
 
@@ -124,7 +124,7 @@ module _ (caps : CapsParts) (driver : DriverParts) (objects : FlowObjects) where
       })
   put_accepted id objs.Other place none change put = absurd cc
 
-  drop_accepted : (type_code id : ℕ) → is_named objects type_code id ≡ false → (change : Change) → drop_of type_code id ≡ Some change → IsAccepted caps objects change
+  drop_accepted : (type_code id : ℕ) → is_named_by_rule objects type_code id ≡ false → (change : Change) → drop_of type_code id ≡ Some change → IsAccepted caps objects change
   unfolding is_sound
   drop_accepted type_code id unnamed change drops = by_type (type_code == group_type) (type_code == classifier_type) (type_code == rule_type) unnamed drops where
     by_type : (group classifier rule : Bool) → cond group (names_group objects id) (cond classifier (names_classifier objects id) false) ≡ false → cond group (Some (DropGroup id)) (cond classifier (Some (DropClassifier id)) (cond rule (Some (DropRule id)) None)) ≡ Some change → IsAccepted caps objects change

@@ -8,7 +8,7 @@ use Rattle.ff_headers.specs.Shapes.{shape_fault}
 use Rattle.byte_numbers.specs.Numbers.{le16_at, le32_at, le64_at}
 use Rattle.admin_wire.specs.Lists.{whole_entry, entries_of, selector_of, raw_list, list_of}
 use Rattle.admin_wire.specs.Objects.{head_of, group_of, classifier_of, object_of, head_and_object}
-use Rattle.admin_wire.specs.Headers.{header_of, opcode_of}
+use Rattle.admin_wire.specs.Headers.{command_header, opcode_of}
 use Rattle.admin_wire.specs.Wire.{data_of, command_of}
 use Rattle.ff_headers.specs.Objects.{no_objects}
 use Rattle.cap_table.specs.Caps.{CapsParts, DriverParts, unset, same_as}
@@ -51,23 +51,23 @@ answered state bytes status qualifier =
 
 -- the type as a whole may be asked for, and half of it may not
 whole_type : answered (state (same_as caps) all_opcodes) (classifier (type_mask 255 255)) 0 0
-unfolding limits type_mask caps state header head classifier is_allowed shape_fault le16_at le32_at le64_at whole_entry entries_of selector_of raw_list list_of classifier_of object_of header_of opcode_of head_of head_and_object data_of command_of answer_of
+unfolding limits type_mask caps state header head classifier is_allowed shape_fault le16_at le32_at le64_at whole_entry entries_of selector_of raw_list list_of classifier_of object_of command_header opcode_of head_of head_and_object data_of command_of answer_of
 whole_type = (refl, refl)
 
 half_type : answered (state (same_as caps) all_opcodes) (classifier (type_mask 0 255)) 22 3
-unfolding limits type_mask caps state header head classifier is_allowed shape_fault le16_at le32_at le64_at whole_entry entries_of selector_of raw_list list_of classifier_of object_of header_of opcode_of head_of head_and_object data_of command_of answer_of
+unfolding limits type_mask caps state header head classifier is_allowed shape_fault le16_at le32_at le64_at whole_entry entries_of selector_of raw_list list_of classifier_of object_of command_header opcode_of head_of head_and_object data_of command_of answer_of
 half_type = (refl, refl)
 
 -- a driver that set nothing has no room for a group; where the create isn't in use, that is looked at first
 unset_driver : answered (state unset all_opcodes) group 28 6
-unfolding limits type_mask caps state header head group is_allowed shape_fault le16_at le32_at le64_at group_of object_of header_of opcode_of head_of head_and_object data_of command_of answer_of
+unfolding limits type_mask caps state header head group is_allowed shape_fault le16_at le32_at le64_at group_of object_of command_header opcode_of head_of head_and_object data_of command_of answer_of
 unset_driver = (refl, refl)
 
 unused_opcode : answered (state unset first_opcodes) group 22 2
-unfolding limits type_mask caps state header head group is_allowed shape_fault le16_at le32_at le64_at group_of object_of header_of opcode_of head_of head_and_object data_of command_of answer_of
+unfolding limits type_mask caps state header head group is_allowed shape_fault le16_at le32_at le64_at group_of object_of command_header opcode_of head_of head_and_object data_of command_of answer_of
 unused_opcode = (refl, refl)
 
 -- a header that is cut is refused before its opcode is looked at
 cut_header : answered (state unset first_opcodes) (10 ∷ replicate 22 0) 22 1
-unfolding limits type_mask caps state header_of opcode_of command_of answer_of
+unfolding limits type_mask caps state command_header opcode_of command_of answer_of
 cut_header = (refl, refl)

@@ -20,13 +20,13 @@ use Rattle.admin_wire.specs.declared.command.RawList.{RawList}
 use Rattle.admin_wire.specs.declared.command.RawList.TheVariants as lists
 use Rattle.byte_numbers.specs.Numbers.{le16_at}
 use Rattle.admin_wire.specs.Codes.{header_size, head_size, group_size, rule_head_size, group_type, classifier_type, rule_type, limits_size, list_head_size, cap_head_size, limits_cap, selectors_cap, actions_cap}
-use Rattle.admin_wire.specs.Headers.{header_of, opcode_of}
+use Rattle.admin_wire.specs.Headers.{command_header, opcode_of}
 use Rattle.admin_wire.specs.Objects.{head_of, group_of, classifier_of, rule_of, object_of, head_and_object}
 use Rattle.admin_wire.specs.declared.error.WireErr.{WireErr}
 use Rattle.cap_table.specs.Verdicts.{type_of, is_object_type}
 use Rattle.admin_wire.specs.Layouts.{opcode_for}
 use Rattle.admin_wire.specs.Opcodes.{code_of, opcode_with}
-use Rattle.admin_wire.specs.Capabilities.{limits_of, selectors_of, actions_of, cap_data_of, cap_of}
+use Rattle.admin_wire.specs.Capabilities.{limits_of, selectors_data, actions_of, cap_data_of, cap_of}
 use Rattle.admin_wire.specs.Lists.{whole_entry, entries_of, selector_of, raw_list, list_of}
 use Rattle.admin_wire.specs.Wire.{data_of, command_of}
 use Rattle.admin_wire.proofs.Reading.{long_enough, after_step}
@@ -99,7 +99,7 @@ list_whole bytes list h =
 pub data_read : (bytes : List ℕ) (command : Command) → command_of bytes ≡ Ok command → data_of (opcode_for command) (drop header_size bytes) ≡ Ok command
 unfolding command_of
 data_read bytes command h =
-    let step = after_step (header_of bytes) _ command h in
+    let step = after_step (command_header bytes) _ command h in
     let sound = sound_header bytes step.0 step.1 in
     let told : opcode_of bytes ≡ Some (code_of (opcode_for command)) = opcode_if_read bytes (Ok command) (sym h) in
     let codes : Some (code_of step.0) ≡ Some (code_of (opcode_for command)) = sym sound.opcode_is ∙ told in
@@ -188,9 +188,9 @@ whole_actions bytes (caps.Actions actions) h = tt
 whole_actions bytes (caps.Other id) h = tt
 
 cap_data_whole : (id : ℕ) (bytes : List ℕ) (wanted : CapData) → cap_data_of id bytes ≡ Ok wanted → IsWholeCap wanted
-unfolding cap_data_of selectors_of
+unfolding cap_data_of selectors_data
 cap_data_whole id bytes wanted h = by_id (id == limits_cap) (id == selectors_cap) (id == actions_cap) h where
-  by_id : (b c d : Bool) → cond b (limits_of bytes) (cond c (selectors_of bytes) (cond d (actions_of bytes) (Ok (caps.Other id)))) ≡ Ok wanted → IsWholeCap wanted
+  by_id : (b c d : Bool) → cond b (limits_of bytes) (cond c (selectors_data bytes) (cond d (actions_of bytes) (Ok (caps.Other id)))) ≡ Ok wanted → IsWholeCap wanted
   by_id true c d h = whole_limits bytes wanted h
   by_id false true d h = let step = after_step (list_of bytes) _ wanted h in let is : caps.Selectors step.0 ≡ wanted = cc step.2 in subst IsWholeCap is (list_whole bytes step.0 step.1)
   by_id false false true h = whole_actions bytes wanted h

@@ -13,7 +13,7 @@ use Rattle.admin_wire.specs.declared.command.RawList.{RawList}
 use Rattle.admin_wire.specs.declared.command.RawList.TheVariants.{Good, Odd}
 use Rattle.admin_wire.specs.LaidOut.{HasCapLayout}
 use Rattle.cap_table.specs.Caps.{CapsParts, DriverParts, AtMost, AreSelectors}
-use Rattle.cap_table.specs.CapSets.{is_some_above, cap_fault, IsRising, IsSettable, with_cap, IsWithin}
+use Rattle.cap_table.specs.CapSets.{is_some_above, cap_fault, IsRising, IsSettable, with_cap, IsDriverWithin}
 use Rattle.cap_table.specs.declared.setting.CapErr.{CapErr}
 
 -- ---- what isn't refused can be set
@@ -70,7 +70,7 @@ IsWholeCap (caps.Selectors list) = IsWholeList list
 IsWholeCap _ = Unit {0}
 
 pub within_if_whole : (device : CapsParts) (driver : DriverParts) (wanted : CapData) → IsWholeCap wanted
-    → cap_fault device wanted ≡ None → IsWithin device driver → IsWithin device (with_cap driver wanted)
+    → cap_fault device wanted ≡ None → IsDriverWithin device driver → IsDriverWithin device (with_cap driver wanted)
 unfolding cap_fault
 within_if_whole device driver (caps.Limits limits) whole none within =
     record { limits = none_above device.limits limits (test_fails _ _ none); selectors = within.selectors }
@@ -91,5 +91,5 @@ whole_if_laid_out (caps.Actions actions) has = tt
 whole_if_laid_out (caps.Other id) has = tt
 
 pub within_if_no_fault : (device : CapsParts) (driver : DriverParts) (wanted : CapData) → HasCapLayout wanted
-    → cap_fault device wanted ≡ None → IsWithin device driver → IsWithin device (with_cap driver wanted)
+    → cap_fault device wanted ≡ None → IsDriverWithin device driver → IsDriverWithin device (with_cap driver wanted)
 within_if_no_fault device driver wanted has = within_if_whole device driver wanted (whole_if_laid_out wanted has)

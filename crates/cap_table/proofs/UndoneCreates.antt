@@ -16,7 +16,7 @@ use Rattle.admin_wire.specs.declared.command.ObjData.{ObjData}
 use Rattle.admin_wire.specs.declared.command.ObjData.TheVariants.{Group, Classifier, Rule, Other}
 use Rattle.admin_wire.specs.Wire.{command_of}
 use Rattle.cap_table.specs.States.{DeviceState, IsValid, is_opcode_in}
-use Rattle.cap_table.specs.Verdicts.{first_verdict, command_rows, type_of, is_object_type, is_held, is_named, selectors_in}
+use Rattle.cap_table.specs.Verdicts.{first_verdict, command_rows, type_of, is_object_type, is_held, is_named_by_rule, selectors_in}
 use Rattle.cap_table.specs.Answers.{put_of, drop_of, rule_parts, effect_with}
 use Rattle.cap_table.specs.Steps.{status_of, reply_of, with_effect, next_state}
 use Rattle.cap_table.proofs.AcceptedChanges.{not_false, none_from_test, some_is, accepted_change}
@@ -53,7 +53,7 @@ module _ (limits : Limits) (objects : FlowObjects) (was : IsWellFormed limits ob
   -- the drop that undoes a put under a new id
   record IsUndone (id : ℕ) (object : ObjData) (change : Change) : Type 0 where
     pub held : is_held (with_change_made objects change) (type_of object) id ≡ true
-    pub unnamed : is_named (with_change_made objects change) (type_of object) id ≡ false
+    pub unnamed : is_named_by_rule (with_change_made objects change) (type_of object) id ≡ false
     pub drop : Change
     pub drops : drop_of (type_of object) id ≡ Some drop
     pub sound : is_sound limits (with_change_made objects change) drop ≡ true
@@ -121,7 +121,7 @@ undone_create state create destroy room later head object valid created destroye
       new = refl;
       room = refl;
       held = ap not (subst (λ (t : ℕ). is_held made.objects t head.id ≡ true) typed back.held);
-      unneeded = subst (λ (t : ℕ). is_named made.objects t head.id ≡ false) typed back.unnamed;
+      unneeded = subst (λ (t : ℕ). is_named_by_rule made.objects t head.id ≡ false) typed back.unnamed;
       content = tt;
     }) in
     let drops : drop_of head.type_code head.id ≡ Some back.drop = subst (λ (t : ℕ). drop_of t head.id ≡ Some back.drop) typed back.drops in

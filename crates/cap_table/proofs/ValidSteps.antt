@@ -23,7 +23,7 @@ use Rattle.admin_wire.specs.Wire.{command_of}
 use Rattle.admin_wire.specs.Headers.{opcode_of}
 use Rattle.cap_table.specs.Caps.{CapsParts, AreCaps}
 use Rattle.cap_table.specs.States.{DeviceState, QueuesWithin, IsValid, start_state}
-use Rattle.cap_table.specs.CapSets.{cap_fault, IsWithin}
+use Rattle.cap_table.specs.CapSets.{cap_fault, IsDriverWithin}
 use Rattle.cap_table.specs.Verdicts.{first_verdict, verdict_rows, layout_rows, read_rows, command_rows}
 use Rattle.cap_table.specs.Answers.{answer_of, verdict_of, accepted, refused_or, effect_with, effect_for, change_of, opcodes_used}
 use Rattle.cap_table.specs.Steps.{effect_of, effect_in, with_effect, next_state, state_after, IsEffect}
@@ -74,7 +74,7 @@ all_without P (e ∷ es) id all = by_test (is_at (nat_cmp id) e.0) (all_without 
 abbrev pub IsSafe : DeviceState → Effect → Type 0
 IsSafe state effects.Nothing = Unit {0}
 IsSafe state (effects.Use opcodes) = (bit_at opcodes 0 ≡ 1) × (bit_at opcodes 1 ≡ 1)
-IsSafe state (effects.Caps driver) = IsWithin state.caps driver
+IsSafe state (effects.Caps driver) = IsDriverWithin state.caps driver
 IsSafe state (effects.Change change) = IsAccepted state.caps state.objects change
 
 -- the two opcodes stay

@@ -27,12 +27,12 @@ abbrev pub cap_word : ℕ → ℕ
 cap_word k = sum_by (cap_bit (64 * k)) (range_with_len 0 64)
 
 -- how many words of the bitmap are told
-abbrev pub list_size : ℕ
-list_size = 33
+abbrev pub list_word_count : ℕ
+list_word_count = 33
 
 -- the bitmap, word for word
 abbrev pub list_words : List ℕ
-list_words = map cap_word (range_with_len 0 list_size)
+list_words = map cap_word (range_with_len 0 list_word_count)
 
 -- ---- the bytes of a capability
 

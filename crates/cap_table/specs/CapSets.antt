@@ -103,7 +103,7 @@ with_cap driver (caps.Actions actions) = record driver { drops = actions.drop; q
 with_cap driver (caps.Other id) = driver
 
 -- what the driver set is within what the device offers
-pub record IsWithin (device : CapsParts) (driver : DriverParts) : Type 0 where
+pub record IsDriverWithin (device : CapsParts) (driver : DriverParts) : Type 0 where
   pub limits : AtMost driver.limits device.limits
   pub selectors : AreSelectors driver.selectors
 

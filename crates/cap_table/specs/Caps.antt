@@ -35,6 +35,10 @@ pub record AtMost (some most : Limits) : Type 0 where
   pub last_priority : some.last_priority ≤ most.last_priority
   pub selectors : some.selectors ≤ most.selectors
 
+-- the queue pairs that a device has at most. This project's own.
+abbrev pub most_pairs : ℕ
+most_pairs = 16
+
 -- what this project's device can have at most
 abbrev pub greatest_limits : Limits
 greatest_limits =
@@ -45,10 +49,10 @@ pub record AreSelectors (selectors : List SelectorParts) : Type 0 where
   pub rising : IsStrictlyIncreasing (codes_of selectors)
   pub whole : All IsWhole selectors
 
--- the capabilities that a device can have: 1 to 16 queue pairs, and limits up to the greatest
+-- the capabilities that a device can have: at least one queue pair and at most the most, and limits up to the greatest
 pub record AreCaps (caps : CapsParts) : Type 0 where
   pub some_pair : 1 ≤ caps.pairs
-  pub pairs : caps.pairs ≤ 16
+  pub pairs : caps.pairs ≤ most_pairs
   pub limits : AtMost caps.limits greatest_limits
   pub selectors : AreSelectors caps.selectors
 

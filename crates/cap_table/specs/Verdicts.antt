@@ -158,8 +158,8 @@ is_held objects type_code id =
     else false
 
 -- a rule names the group or the classifier with the id; no object names a rule
-abbrev pub is_named : FlowObjects → ℕ → ℕ → Bool
-is_named objects type_code id =
+abbrev pub is_named_by_rule : FlowObjects → ℕ → ℕ → Bool
+is_named_by_rule objects type_code id =
     if type_code == group_type then names_group objects id
     else if type_code == classifier_type then names_classifier objects id
     else false
@@ -187,7 +187,7 @@ is_missing objects _ = false
 -- a destroy of a group or a classifier, or a modify of a classifier, that a rule names
 abbrev pub is_needed : FlowObjects → Command → Bool
 is_needed objects (Modify head (Classifier list)) = names_classifier objects head.id
-is_needed objects (Destroy head) = is_named objects head.type_code head.id
+is_needed objects (Destroy head) = is_named_by_rule objects head.type_code head.id
 is_needed objects _ = false
 
 -- ---- the content of an object that a create or a modify gives

@@ -2,7 +2,7 @@
 
 ghost use Rattle.std.specs.Prelude.{◌≡◌, ◌≤◌, All};
 ghost use Rattle.ff_headers.specs.SelectorParts.{IsWhole};
-ghost use Rattle.cap_table.specs.Caps.{AreCaps, AreSelectors, AtMost, greatest_limits, all_selectors, same_as, unset};
+ghost use Rattle.cap_table.specs.Caps.{AreCaps, AreSelectors, AtMost, greatest_limits, most_pairs, all_selectors, same_as, unset};
 ghost use Rattle.cap_table.specs.Caps.{is_action_set, are_supported};
 ghost use Rattle.cap_table.specs.CapSets.{IsSettable, with_cap};
 
@@ -11,6 +11,19 @@ use admin_wire::{CapData, RawList, VIRTIO_NET_FF_ACTION_DROP, VIRTIO_NET_FF_ACTI
 use arrayvec::ArrayVec;
 use ff_headers::{Kind, Limits, Selector};
 use std::marker::Model;
+
+/// The queue pairs that a device has at most. This project's own.
+pub const MOST_PAIRS: u8 = 16;
+
+/// The limits that a device has at most. This project's own.
+pub const GREATEST_LIMITS: Limits = Limits {
+    groups: 16,
+    classifiers: 64,
+    rules: 1024,
+    per_group: 1024,
+    last_priority: 255,
+    selectors: 3,
+};
 
 /// What a device offers: its queue pairs, its limits on objects, and the selectors that a classifier may ask for, with
 /// types that rise strictly. Its actions are always drop and queue.
@@ -32,10 +45,11 @@ impl Model for DeviceCaps {
 }
 
 impl DeviceCaps {
-    /// A device with 1 to 16 queue pairs, limits up to the greatest, and these selectors, whose types rise strictly.
+    /// A device with at least one queue pair, [`MOST_PAIRS`] at most, limits up to [`GREATEST_LIMITS`], and these
+    /// selectors, whose types rise strictly.
     pub fn new(pairs: u8, limits: Limits, selectors: ArrayVec<Selector, 5>) -> DeviceCaps
         requires some_pair { 1 ≤ pairs }
-        requires pairs { pairs ≤ 16 }
+        requires pairs { pairs ≤ most_pairs }
         requires limits { AtMost limits greatest_limits }
         requires selectors { AreSelectors selectors.items }
         ensures { result ≡ record { pairs = pairs; limits = limits; selectors = selectors.items } }
@@ -47,18 +61,18 @@ impl DeviceCaps {
         }
     }
 
-    /// A device with 1 to 16 queue pairs, limits up to the greatest, and for each header a selector of ones, any part
-    /// of which may be asked for.
+    /// A device with at least one queue pair, [`MOST_PAIRS`] at most, limits up to [`GREATEST_LIMITS`], and for each
+    /// header a selector of ones, any part of whose mask may be asked for.
     pub fn with_all_selectors(pairs: u8, limits: Limits) -> DeviceCaps
         requires some_pair { 1 ≤ pairs }
-        requires pairs { pairs ≤ 16 }
+        requires pairs { pairs ≤ most_pairs }
         requires limits { AtMost limits greatest_limits }
         ensures { result ≡ record { pairs = pairs; limits = limits; selectors = all_selectors } }
     {
         DeviceCaps::new(pairs, limits, all_selectors())
     }
 
-    /// The queue pairs: 1 to 16.
+    /// The queue pairs: at least one, and [`MOST_PAIRS`] at most.
     pub fn pairs(&self) -> u8
         ensures value { result ≡ self.now.pairs }
         ensures ranges { AreCaps self.now }

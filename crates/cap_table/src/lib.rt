@@ -36,7 +36,7 @@ mod verdict;
 
 pub use answer::{Answer, Effect};
 pub use cap_results::{cap_result, list_bytes, list_words};
-pub use capabilities::{DeviceCaps, DriverCaps};
+pub use capabilities::{DeviceCaps, DriverCaps, GREATEST_LIMITS, MOST_PAIRS};
 pub use opcodes::{has_opcode, has_other_opcode, is_opcode_in, opcode_bytes, opcodes_used};
 pub use setting::{CapErr, may_set};
 pub use start::Start;

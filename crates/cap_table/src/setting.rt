@@ -3,15 +3,13 @@
 ghost use Rattle.std.specs.Prelude.{◌≡◌, IsOk};
 ghost use Rattle.std.specs.List.{list_any};
 ghost use Rattle.std.specs.Result.{result_err};
-ghost use Rattle.ff_headers.specs.Fields.{is_partial};
-ghost use Rattle.ff_headers.specs.Shapes.{codes_of, rises};
 ghost use Rattle.admin_wire.specs.declared.command.CapData.TheVariants as caps;
 ghost use Rattle.cap_table.specs.CapSets.{is_some_above, is_type_missing, is_mask_refused, cap_fault, IsSettable};
 
 use crate::capabilities::DeviceCaps;
 use crate::support::selector_of_kind;
 use admin_wire::{CapData, RawList};
-use ff_headers::{Limits, Selector, allowed};
+use ff_headers::{Limits, Selector, allowed, is_partial, rises};
 
 /// Why a capability isn't set. The first that holds is given.
 #[derive(Clone, Copy, Debug, PartialEq, Eq)]
@@ -27,9 +25,6 @@ pub enum CapErr {
     /// An action byte is neither of the two.
     Action,
 }
-
-/// The flag of a selector by which any part of its mask may be asked for.
-const PARTIAL_MASK: u8 = 1;
 
 /// Whether the device lets its driver set the capability, or else why not.
 #[tactic(auto, unfolding(crate::specs::CapSets::cap_fault))]
@@ -77,13 +72,6 @@ fn is_some_above(most: &Limits, limits: &Limits) -> bool
         || most.selectors < limits.selectors
 }
 
-/// Whether the types rise strictly.
-fn rises(list: &[Selector]) -> bool
-    ensures { result ≡ rises (codes_of list.now) }
-{
-    list.is_sorted_by(|a, b| a.kind().code() < b.kind().code())
-}
-
 /// Whether a capability lacks the type of some wanted selector.
 fn has_type_missing(have: &[Selector], wanted: &[Selector]) -> bool
     ensures { result ≡ list_any (is_type_missing have.now) wanted.now }
@@ -113,11 +101,4 @@ fn is_mask_refused(have: &[Selector], wanted: &Selector) -> bool
         Some(one) => !allowed(one, wanted) || (is_partial(wanted) && !is_partial(one)),
         None => false,
     }
-}
-
-/// Whether any part of the mask may be asked for.
-fn is_partial(selector: &Selector) -> bool
-    ensures { result ≡ is_partial selector.now }
-{
-    selector.flags() & PARTIAL_MASK == PARTIAL_MASK
 }

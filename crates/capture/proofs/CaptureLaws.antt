@@ -6,31 +6,31 @@ use Rattle.std.proofs.lemmas.Nat.{from_le_bytes-to_le_bytes_4}
 use Rattle.std.specs.List.{flat_map}
 use Rattle.byte_numbers.specs.Numbers.{le16_at, le32_at, be16_at, be32_at}
 use Rattle.capture.specs.declared.header.CaptureHeader.{CaptureHeader}
-use Rattle.capture.specs.FileHeaders.{number16_at, number32_at, is_version_2_4, link_type, header_of, IsHeader}
+use Rattle.capture.specs.FileHeaders.{number16_at, number32_at, is_version_2_4, link_type, file_header, IsHeader}
 use Rattle.capture.specs.Records.{captured_length, records_of, IsRecordHead, AreRecords}
 use Rattle.capture.specs.Captures.{capture_of, IsCapture, header_text, record_head, record_text, capture_text}
 use Rattle.capture.proofs.Choices.{fault_if-ok, bind_ok}
 use Rattle.capture.proofs.CaptureLemmas.{capture_of-header}
-use Rattle.capture.proofs.HeaderLaws.{header_of-good, good-header_of}
+use Rattle.capture.proofs.HeaderLaws.{file_header-good, good-file_header}
 use Rattle.capture.proofs.RecordLaws.{records_of-are, are-records_of}
 
 -- a header is whole where it is read
-pub header_of-whole : (bytes : List ℕ) (header : CaptureHeader) → header_of bytes ≡ Ok header → 24 ≤ length bytes
-unfolding header_of
-header_of-whole bytes header good = ltb-false (length bytes) 24 (fault_if-ok _ _ _ _ good).0
+pub file_header-whole : (bytes : List ℕ) (header : CaptureHeader) → file_header bytes ≡ Ok header → 24 ≤ length bytes
+unfolding file_header
+file_header-whole bytes header good = ltb-false (length bytes) 24 (fault_if-ok _ _ _ _ good).0
 
 pub capture_of-is : (bytes : List ℕ) (frames : List (List ℕ)) → capture_of bytes ≡ Ok frames → IsCapture bytes frames
 unfolding capture_of
 capture_of-is bytes frames read =
     let header = bind_ok _ _ frames read in
-    let whole = header_of-whole bytes header.0 header.1 in
+    let whole = file_header-whole bytes header.0 header.1 in
     let split = take-append-drop 24 bytes in
-    let good = header_of-good (take 24 bytes) (drop 24 bytes) header.0 (length-take-le 24 bytes whole) (ap header_of split ∙ header.1) in
+    let good = file_header-good (take 24 bytes) (drop 24 bytes) header.0 (length-take-le 24 bytes whole) (ap file_header split ∙ header.1) in
     (header.0, take 24 bytes, drop 24 bytes, good, sym split, records_of-are header.0.big 24 (drop 24 bytes) frames header.2)
 
 pub is-capture_of : (bytes : List ℕ) (frames : List (List ℕ)) → IsCapture bytes frames → capture_of bytes ≡ Ok frames
 is-capture_of bytes frames (kind, header, rest, good, split, records) =
-    let read = ap header_of split ∙ good-header_of header rest kind good in
+    let read = ap file_header split ∙ good-file_header header rest kind good in
     let left = ap (drop 24) split ∙ drop_at header rest 24 good.size in
     capture_of-header bytes kind read ∙ ap (records_of kind.big 24) left ∙ are-records_of kind.big 24 rest frames records
 

@@ -4,13 +4,13 @@ use Rattle.std.proofs.Math.Seq.{take-append-add}
 use Rattle.std.proofs.lemmas.List.{take-append-drop, length-take-le, drop-drop}
 use Rattle.capture.specs.declared.error.CaptureErr.{CaptureErr}
 use Rattle.capture.specs.declared.header.CaptureHeader.{CaptureHeader}
-use Rattle.capture.specs.FileHeaders.{header_of}
+use Rattle.capture.specs.FileHeaders.{file_header}
 use Rattle.capture.specs.Records.{◌>>=◌, frame_of, records_within, records_of, AreRecords}
 use Rattle.capture.specs.Captures.{capture_of, IsRecordFault}
 use Rattle.capture.proofs.RecordLemmas.{shorter}
-use Rattle.capture.proofs.HeaderLaws.{header_of-good}
+use Rattle.capture.proofs.HeaderLaws.{file_header-good}
 use Rattle.capture.proofs.RecordLaws.{frame_of-read, first_record}
-use Rattle.capture.proofs.CaptureLaws.{header_of-whole}
+use Rattle.capture.proofs.CaptureLaws.{file_header-whole}
 
 bind_fault : {A B : Type 0} (read : Result A CaptureErr) (f : A → Result B CaptureErr) (fault : CaptureErr) → (read >>= f) ≡ Err fault → (read ≡ Err fault) ⊎ ((x : A) × (read ≡ Ok x) × (f x ≡ Err fault))
 bind_fault (Ok x) f fault same = inr (x, refl, same)
@@ -50,17 +50,17 @@ records-fault (suc n) big at (b ∷ bs) fault enough read =
     ]
 
 -- the fault of a capture with a good header
-record-fault : (bytes : List ℕ) (kind : CaptureHeader) (fault : CaptureErr) → header_of bytes ≡ Ok kind → FaultBehind kind.big 24 (drop 24 bytes) fault → IsRecordFault bytes fault
+record-fault : (bytes : List ℕ) (kind : CaptureHeader) (fault : CaptureErr) → file_header bytes ≡ Ok kind → FaultBehind kind.big 24 (drop 24 bytes) fault → IsRecordFault bytes fault
 record-fault bytes kind fault good (m, frames, within, are, bad) =
-    let whole = header_of-whole bytes kind good in
+    let whole = file_header-whole bytes kind good in
     let header = take 24 bytes in
     let rest = drop 24 bytes in
     let size = length-take-le 24 bytes whole in
     let split = take-append-drop 24 bytes in
     let taken : take (24 + m) bytes ≡ header ++ take m rest = ap (λ n. take (n + m) bytes) (sym size) ∙ ap (take (length header + m)) (sym split) ∙ take-append-add header rest m in
-    (kind, frames, 24 + m, good, omega arith, omega (arith, length-drop 24 bytes), (kind, header, take m rest, header_of-good header rest kind size (ap header_of split ∙ good), taken, are), ap (frame_of kind.big (24 + m)) (sym (drop-drop m 24 bytes)) ∙ bad)
+    (kind, frames, 24 + m, good, omega arith, omega (arith, length-drop 24 bytes), (kind, header, take m rest, file_header-good header rest kind size (ap file_header split ∙ good), taken, are), ap (frame_of kind.big (24 + m)) (sym (drop-drop m 24 bytes)) ∙ bad)
 
-pub capture-fault : (bytes : List ℕ) (fault : CaptureErr) → capture_of bytes ≡ Err fault → (header_of bytes ≡ Err fault) ⊎ IsRecordFault bytes fault
+pub capture-fault : (bytes : List ℕ) (fault : CaptureErr) → capture_of bytes ≡ Err fault → (file_header bytes ≡ Err fault) ⊎ IsRecordFault bytes fault
 unfolding capture_of records_of
 capture-fault bytes fault read =
     let first = bind_fault _ _ fault read in

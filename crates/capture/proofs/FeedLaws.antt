@@ -5,13 +5,13 @@ use Rattle.std.proofs.lemmas.List.{take-append-le, length-append, append_assoc, 
 use Rattle.capture.specs.declared.error.CaptureErr.{CaptureErr}
 use Rattle.capture.specs.declared.error.CaptureErr.TheVariants.{Truncated, TooLong}
 use Rattle.capture.specs.declared.header.CaptureHeader.{CaptureHeader}
-use Rattle.capture.specs.FileHeaders.{kind_of_magic, checked_header, header_of}
+use Rattle.capture.specs.FileHeaders.{kind_of_magic, checked_header, file_header}
 use Rattle.capture.specs.Records.{map_ok, with_front, captured_length, frame_of, records_of, AreRecords}
 use Rattle.capture.specs.Captures.{capture_of}
 use Rattle.capture.proofs.Choices.{ok_same}
-use Rattle.capture.proofs.HeaderLaws.{number32_at-front, version-front, link-front, good-header_of}
+use Rattle.capture.proofs.HeaderLaws.{number32_at-front, version-front, link-front, good-file_header}
 use Rattle.capture.proofs.CaptureLemmas.{capture_of-header}
-use Rattle.capture.proofs.CaptureLaws.{header_of-whole, capture_of-is}
+use Rattle.capture.proofs.CaptureLaws.{file_header-whole, capture_of-is}
 use Rattle.capture.proofs.RecordLemmas.{records_of-more, front-none}
 use Rattle.capture.proofs.RecordLaws.{frame_of-read, first_record, frame_of-record, are-records_of}
 
@@ -22,9 +22,9 @@ unfolding checked_header
 checked-front xs ys None long = refl
 checked-front xs ys (Some kind) long = rw (version-front kind.big xs ys long, link-front kind.big xs ys long) refl
 
-pub header_of-front : (xs ys : List ℕ) → 24 ≤ length xs → header_of (xs ++ ys) ≡ header_of xs
-unfolding header_of
-header_of-front xs ys long =
+pub file_header-front : (xs ys : List ℕ) → 24 ≤ length xs → file_header (xs ++ ys) ≡ file_header xs
+unfolding file_header
+file_header-front xs ys long =
     cond-false _ _ _ (le-ltb (length (xs ++ ys)) 24 (omega (arith, length-append xs ys)))
     ∙ ap (λ four. checked_header (xs ++ ys) (kind_of_magic four)) (take-append-le 4 xs ys (omega arith))
     ∙ checked-front xs ys (kind_of_magic (take 4 xs)) long
@@ -55,21 +55,21 @@ records_of-behind big at bytes (frame ∷ frames) later (head, rest, good, split
     ∙ ap (λ n. map_ok (λ more. frame ∷ more) (with_front frames (records_of big n later))) place
     ∙ front-cons frame frames (records_of big (at + length bytes) later)
 
-pub capture_of-behind : (kind : CaptureHeader) (front : List ℕ) (frames : List (List ℕ)) (later : List ℕ) → header_of front ≡ Ok kind → capture_of front ≡ Ok frames → capture_of (front ++ later) ≡ with_front frames (records_of kind.big (length front) later)
+pub capture_of-behind : (kind : CaptureHeader) (front : List ℕ) (frames : List (List ℕ)) (later : List ℕ) → file_header front ≡ Ok kind → capture_of front ≡ Ok frames → capture_of (front ++ later) ≡ with_front frames (records_of kind.big (length front) later)
 capture_of-behind kind front frames later is_header is_capture =
     let (known, header, rest, good, split, records) = capture_of-is front frames is_capture in
-    let same : known ≡ kind = ok_same (header_of front) known kind (ap header_of split ∙ good-header_of header rest known good) is_header in
+    let same : known ≡ kind = ok_same (file_header front) known kind (ap file_header split ∙ good-file_header header rest known good) is_header in
     let size = good.size in
-    let long = header_of-whole front kind is_header in
+    let long = file_header-whole front kind is_header in
     let whole : front ++ later ≡ header ++ (rest ++ later) = ap (λ xs. xs ++ later) split ∙ append_assoc header rest later in
     let left : drop 24 (front ++ later) ≡ rest ++ later = ap (drop 24) whole ∙ drop_at header (rest ++ later) 24 size in
     let place : 24 + length rest ≡ length front = omega (arith, size, ap length split, length-append header rest) in
-    capture_of-header (front ++ later) kind (header_of-front front later long ∙ is_header)
+    capture_of-header (front ++ later) kind (file_header-front front later long ∙ is_header)
     ∙ ap (records_of kind.big 24) left
     ∙ records_of-behind kind.big 24 rest frames later (subst (λ k. AreRecords k.big rest frames) same records)
     ∙ ap (λ n. with_front frames (records_of kind.big n later)) place
 
-pub capture_of-longer : (kind : CaptureHeader) (front : List ℕ) (frames more : List (List ℕ)) (later : List ℕ) → header_of front ≡ Ok kind → capture_of front ≡ Ok frames → AreRecords kind.big later more → capture_of (front ++ later) ≡ Ok (frames ++ more)
+pub capture_of-longer : (kind : CaptureHeader) (front : List ℕ) (frames more : List (List ℕ)) (later : List ℕ) → file_header front ≡ Ok kind → capture_of front ≡ Ok frames → AreRecords kind.big later more → capture_of (front ++ later) ≡ Ok (frames ++ more)
 capture_of-longer kind front frames more later is_header is_capture records =
     capture_of-behind kind front frames later is_header is_capture
     ∙ ap (with_front frames) (are-records_of kind.big (length front) later more records)

@@ -8,29 +8,29 @@ use Rattle.capture.specs.declared.error.CaptureErr.{CaptureErr}
 use Rattle.capture.specs.declared.error.CaptureErr.TheVariants.{Truncated, TooLong}
 use Rattle.capture.specs.declared.header.CaptureHeader.{CaptureHeader}
 use Rattle.capture.specs.Sizes.{longest_record}
-use Rattle.capture.specs.FileHeaders.{header_of}
+use Rattle.capture.specs.FileHeaders.{file_header}
 use Rattle.capture.specs.Records.{with_front, frame_of}
 use Rattle.capture.specs.Captures.{capture_of}
 use Rattle.capture.specs.Feeds.{FeedState, IsCutAt, StandsBy, StandsSound, StandsFor, AreFed, WereCut, is_lasting}
 use Rattle.capture.proofs.CaptureLemmas.{capture_of-header, capture_of-bad_header}
-use Rattle.capture.proofs.CaptureLaws.{header_of-whole}
+use Rattle.capture.proofs.CaptureLaws.{file_header-whole}
 use Rattle.capture.proofs.RecordLemmas.{records_of-bad, records_of-end}
-use Rattle.capture.proofs.FeedLaws.{header_of-front, capture_of-behind, capture_of-longer, record-fault, too_long-stays}
+use Rattle.capture.proofs.FeedLaws.{file_header-front, capture_of-behind, capture_of-longer, record-fault, too_long-stays}
 
 -- ---- records are cut from the bytes
 
 lasting-fault : (fault : CaptureErr) (at : ℕ) → is_lasting fault ≡ true → fault ≡ Truncated at → ⊥
 lasting-fault fault at lasting same = let none : is_lasting fault ≡ false = ap is_lasting same in cc
 
-module _ (kind : CaptureHeader) (front bytes : List ℕ) (before at : ℕ) (old new : List (List ℕ)) (stop : CaptureErr) (size : length front ≡ before) (is_header : header_of front ≡ Ok kind) (is_capture : capture_of front ≡ Ok old) (cut : WereCut kind.big before bytes old new at stop) where
+module _ (kind : CaptureHeader) (front bytes : List ℕ) (before at : ℕ) (old new : List (List ℕ)) (stop : CaptureErr) (size : length front ≡ before) (is_header : file_header front ≡ Ok kind) (is_capture : capture_of front ≡ Ok old) (cut : WereCut kind.big before bytes old new at stop) where
   abbrev longer : List ℕ
   longer = front ++ take at bytes
 
   longer-size : length longer ≡ before + at
   longer-size = omega (arith, size, length-append front (take at bytes), length-take-le at bytes cut.within)
 
-  longer-header : header_of longer ≡ Ok kind
-  longer-header = header_of-front front (take at bytes) (header_of-whole front kind is_header) ∙ is_header
+  longer-header : file_header longer ≡ Ok kind
+  longer-header = file_header-front front (take at bytes) (file_header-whole front kind is_header) ∙ is_header
 
   longer-capture : capture_of longer ≡ Ok new
   longer-capture =
@@ -70,8 +70,8 @@ module _ (kind : CaptureHeader) (front bytes : List ℕ) (before at : ℕ) (old 
   ]
 
 -- a faulty header
-pub header-faulty : (bytes : List ℕ) (fault : CaptureErr) → 24 ≤ length bytes → header_of bytes ≡ Err fault → (later : List ℕ) → capture_of (bytes ++ later) ≡ Err fault
-header-faulty bytes fault long bad later = capture_of-bad_header (bytes ++ later) fault (header_of-front bytes later long ∙ bad)
+pub header-faulty : (bytes : List ℕ) (fault : CaptureErr) → 24 ≤ length bytes → file_header bytes ≡ Err fault → (later : List ℕ) → capture_of (bytes ++ later) ≡ Err fault
+header-faulty bytes fault long bad later = capture_of-bad_header (bytes ++ later) fault (file_header-front bytes later long ∙ bad)
 
 -- ---- the end
 
@@ -79,7 +79,7 @@ pub end-faulty : (bytes : List ℕ) (fault : CaptureErr) → ((later : List ℕ)
 end-faulty bytes fault bad = ap capture_of (sym (append-nil bytes)) ∙ bad []
 
 pub end-short : (bytes : List ℕ) → length bytes < 24 → capture_of bytes ≡ Err (Truncated 0)
-unfolding header_of
+unfolding file_header
 end-short bytes short = capture_of-bad_header bytes (Truncated 0) (cond-true _ _ _ (lt-ltb (length bytes) 24 short))
 
 no_bytes : (bytes : List ℕ) → length bytes ≡ 0 → bytes ≡ []
@@ -140,17 +140,17 @@ stands-dropped feed bytes piece fault is stands =
     stands-faulty feed (bytes ++ piece) fault is (λ later. ap capture_of (append_assoc bytes piece later) ∙ bad (piece ++ later))
 
 -- what a header is followed by
-pub header-first : (kind : CaptureHeader) (bytes : List ℕ) → header_of bytes ≡ Ok kind → (length (take 24 bytes) ≡ 24) × (header_of (take 24 bytes) ≡ Ok kind) × (capture_of (take 24 bytes) ≡ Ok [])
+pub header-first : (kind : CaptureHeader) (bytes : List ℕ) → file_header bytes ≡ Ok kind → (length (take 24 bytes) ≡ 24) × (file_header (take 24 bytes) ≡ Ok kind) × (capture_of (take 24 bytes) ≡ Ok [])
 header-first kind bytes good =
-    let long = header_of-whole bytes kind good in
+    let long = file_header-whole bytes kind good in
     let size = length-take-le 24 bytes long in
     let split = take-append-drop 24 bytes in
-    let first : header_of (take 24 bytes) ≡ Ok kind = sym (header_of-front (take 24 bytes) (drop 24 bytes) (omega (arith, size))) ∙ ap header_of split ∙ good in
+    let first : file_header (take 24 bytes) ≡ Ok kind = sym (file_header-front (take 24 bytes) (drop 24 bytes) (omega (arith, size))) ∙ ap file_header split ∙ good in
     (size, first, capture_of-header (take 24 bytes) kind first ∙ records_of-end kind.big 24 (drop 24 (take 24 bytes)) (omega (arith, size, length-drop 24 (take 24 bytes))))
 
 -- with a header the next step begins at its front, and without one at the rest
 pub step-with_header : (feed after : FeedState) (kind : CaptureHeader) (piece : List ℕ) → feed.fault ≡ None → feed.header ≡ Some kind
-    → ((front : List ℕ) → length front ≡ feed.before → header_of front ≡ Ok kind → capture_of front ≡ Ok feed.frames → StandsFor after (front ++ (feed.rest ++ piece)))
+    → ((front : List ℕ) → length front ≡ feed.before → file_header front ≡ Ok kind → capture_of front ≡ Ok feed.frames → StandsFor after (front ++ (feed.rest ++ piece)))
     → (bytes : List ℕ) → StandsFor feed bytes → StandsFor after (bytes ++ piece)
 step-with_header feed after kind piece sound known step bytes stands =
     let (front, cut) = subst (λ h. StandsSound h feed bytes) known (subst (λ f. StandsBy f feed bytes) sound stands) in

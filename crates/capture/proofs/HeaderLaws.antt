@@ -6,7 +6,7 @@ use Rattle.std.proofs.lemmas.Slice.Eq.{bytes_eq-Decides}
 use Rattle.std.proofs.lemmas.Bool.{cond-false, eqb-true, eq-eqb}
 use Rattle.byte_numbers.proofs.NumberLaws.{HaveSame-front, le16_at-same, le32_at-same, be16_at-same, be32_at-same}
 use Rattle.capture.specs.declared.header.CaptureHeader.{CaptureHeader}
-use Rattle.capture.specs.FileHeaders.{number16_at, number32_at, magic, kind_of_magic, is_version_2_4, link_type, checked_header, header_of, IsHeader}
+use Rattle.capture.specs.FileHeaders.{number16_at, number32_at, magic, kind_of_magic, is_version_2_4, link_type, checked_header, file_header, IsHeader}
 use Rattle.capture.proofs.Choices.{test-way, fault_if-ok, fault_unless-ok, ok_same}
 
 -- numbers within the front
@@ -85,9 +85,9 @@ checked-ok bytes (Some kind) header good =
     (ap Some same, subst (λ k. is_version_2_4 k.big bytes ≡ true) same version.0, subst (λ k. link_type k.big bytes ≡ 1) same (eqb-true _ 1 link.0))
 
 -- a header that is read
-pub header_of-good : (header rest : List ℕ) (kind : CaptureHeader) → length header ≡ 24 → header_of (header ++ rest) ≡ Ok kind → IsHeader kind header
-unfolding header_of
-header_of-good header rest kind size good =
+pub file_header-good : (header rest : List ℕ) (kind : CaptureHeader) → length header ≡ 24 → file_header (header ++ rest) ≡ Ok kind → IsHeader kind header
+unfolding file_header
+file_header-good header rest kind size good =
     let long = fault_if-ok _ _ _ _ good in
     let checked = checked-ok (header ++ rest) (kind_of_magic (take 4 (header ++ rest))) kind long.1 in
     record {
@@ -102,9 +102,9 @@ unfolding checked_header
 checked-good bytes kind version link = rw version (rw (eq-eqb _ 1 link) refl)
 
 -- a good header is read
-pub good-header_of : (header rest : List ℕ) (kind : CaptureHeader) → IsHeader kind header → header_of (header ++ rest) ≡ Ok kind
-unfolding header_of
-good-header_of header rest kind good =
+pub good-file_header : (header rest : List ℕ) (kind : CaptureHeader) → IsHeader kind header → file_header (header ++ rest) ≡ Ok kind
+unfolding file_header
+good-file_header header rest kind good =
     let size = good.size in
     let known = ap kind_of_magic (take-append-le 4 header rest (omega arith) ∙ good.magic) ∙ magic-known kind.big kind.nanos in
     cond-false _ _ _ (le-ltb (length (header ++ rest)) 24 (omega (arith, length-append header rest))) ∙ (ap (checked_header (header ++ rest)) known ∙ checked-good (header ++ rest) kind (version-front kind.big header rest (omega (arith, size)) ∙ good.version) (link-front kind.big header rest (omega (arith, size)) ∙ good.link_type))

@@ -6,13 +6,13 @@ use Rattle.capture.specs.declared.error.CaptureErr.{CaptureErr}
 use Rattle.capture.specs.declared.error.FramesErr.{FramesErr}
 use Rattle.capture.specs.declared.error.FramesErr.TheVariants.{Bad, Memory}
 use Rattle.capture.specs.declared.header.CaptureHeader.{CaptureHeader}
-use Rattle.capture.specs.Sizes.{header_size}
-use Rattle.capture.specs.FileHeaders.{IsHeader, header_of}
+use Rattle.capture.specs.Sizes.{file_header_size}
+use Rattle.capture.specs.FileHeaders.{IsHeader, file_header}
 use Rattle.capture.specs.Records.{◌>>=◌, frame_of, records_of, AreRecords}
 
 -- the frames of a capture, or its first fault
 unfoldable pub capture_of : List ℕ → Result (List (List ℕ)) CaptureErr
-capture_of bytes = header_of bytes >>= λ header. records_of header.big header_size (drop header_size bytes)
+capture_of bytes = file_header bytes >>= λ header. records_of header.big file_header_size (drop file_header_size bytes)
 
 -- The bytes are a capture of the frames: a good header, and then a record for each frame, in order.
 abbrev pub IsCapture : List ℕ → List (List ℕ) → Type 0
@@ -28,7 +28,7 @@ IsCaptureBad bytes fault = capture_of bytes ≡ Err fault
 abbrev pub IsRecordFault : List ℕ → CaptureErr → Type 0
 IsRecordFault bytes fault =
     (kind : CaptureHeader) × (frames : List (List ℕ)) × (at : ℕ)
-    × (header_of bytes ≡ Ok kind) × (header_size ≤ at) × (at < length bytes) × IsCapture (take at bytes) frames
+    × (file_header bytes ≡ Ok kind) × (file_header_size ≤ at) × (at < length bytes) × IsCapture (take at bytes) frames
     × (frame_of kind.big at (drop at bytes) ≡ Err fault)
 
 -- A refusal: the first fault, or that memory ran out.

@@ -3,8 +3,8 @@ use Rattle.std.specs.Prelude.{◌≡◌, ◌≢◌, ℕ, ◌+◌, ◌<◌, ◌�
 use Rattle.capture.specs.declared.error.CaptureErr.{CaptureErr}
 use Rattle.capture.specs.declared.error.CaptureErr.TheVariants.{Truncated}
 use Rattle.capture.specs.declared.header.CaptureHeader.{CaptureHeader}
-use Rattle.capture.specs.Sizes.{header_size, longest_record}
-use Rattle.capture.specs.FileHeaders.{header_of}
+use Rattle.capture.specs.Sizes.{file_header_size, longest_record}
+use Rattle.capture.specs.FileHeaders.{file_header}
 use Rattle.capture.specs.Records.{frame_of, AreRecords}
 use Rattle.capture.specs.Captures.{capture_of, IsCaptureBad}
 
@@ -22,13 +22,13 @@ pub record FeedState : Type 0 where
 pub record IsCutAt (feed : FeedState) (kind : CaptureHeader) (bytes front : List ℕ) : Type 0 where
   pub whole : bytes ≡ front ++ feed.rest
   pub size : length front ≡ feed.before
-  pub is_header : header_of front ≡ Ok kind
+  pub is_header : file_header front ≡ Ok kind
   pub is_capture : capture_of front ≡ Ok feed.frames
   pub is_cut : frame_of kind.big feed.before feed.rest ≡ Err (Truncated feed.before)
 
 -- without a fault: before the header is whole the rest is all
 abbrev pub StandsSound : Option CaptureHeader → FeedState → List ℕ → Type 0
-StandsSound None feed bytes = (bytes ≡ feed.rest) × (feed.before ≡ 0) × (length feed.rest < header_size)
+StandsSound None feed bytes = (bytes ≡ feed.rest) × (feed.before ≡ 0) × (length feed.rest < file_header_size)
 StandsSound (Some kind) feed bytes = (front : List ℕ) × IsCutAt feed kind bytes front
 
 -- with a fault that no later byte can heal, or without one
@@ -47,7 +47,7 @@ pub record IsFeed (feed : FeedState) : Type 0 where
   pub dropped : feed.fault ≢ None → feed.rest ≡ []
   pub unread : feed.header ≡ None → feed.frames ≡ []
   pub at_start : feed.header ≡ None → feed.before ≡ 0
-  pub begun : feed.header ≡ None → length feed.rest < header_size
+  pub begun : feed.header ≡ None → length feed.rest < file_header_size
 
 -- What a feed stood for, it stands for with the piece behind it.
 abbrev pub IsFedOn : FeedState → FeedState → List ℕ → Type 0

@@ -3,7 +3,7 @@
 use Rattle.std.specs.Prelude.{◌≡◌, ℕ, ◌%◌, ◌==◌, ◌&&◌, Bool, true, false, if◌then◌else◌, nat_lt, List, [], ◌∷◌, length, take, Option, Some, None, Result, Ok, Err}
 use Rattle.std.specs.Str.{bytes_eq}
 use Rattle.byte_numbers.specs.Numbers.{le16_at, le32_at, be16_at, be32_at}
-use Rattle.capture.specs.Sizes.{header_size, link_type_count}
+use Rattle.capture.specs.Sizes.{file_header_size, link_type_count}
 use Rattle.capture.specs.declared.error.CaptureErr.{CaptureErr}
 use Rattle.capture.specs.declared.error.CaptureErr.TheVariants.{Truncated, Magic, Version, LinkType}
 use Rattle.capture.specs.declared.header.CaptureHeader.{CaptureHeader}
@@ -34,7 +34,7 @@ link_type big bytes = number32_at big bytes 20 % link_type_count
 -- Good header: 24 bytes with a known magic, version 2.4 and the link type of Ethernet. The other numbers are ignored:
 -- the zone, the accuracy of times, and how many bytes of each frame were kept.
 pub record IsHeader (header : CaptureHeader) (bytes : List ℕ) : Type 0 where
-  pub size : length bytes ≡ header_size
+  pub size : length bytes ≡ file_header_size
   pub magic : take 4 bytes ≡ magic header.big header.nanos
   pub version : is_version_2_4 header.big bytes ≡ true
   pub link_type : link_type header.big bytes ≡ 1
@@ -56,7 +56,7 @@ checked_header bytes (Some header) =
     else Err Version
 
 -- the header that bytes begin with, or its first fault, in the order of its bytes
-unfoldable pub header_of : List ℕ → Result CaptureHeader CaptureErr
-header_of bytes =
-    if nat_lt (length bytes) header_size then Err (Truncated 0)
+unfoldable pub file_header : List ℕ → Result CaptureHeader CaptureErr
+file_header bytes =
+    if nat_lt (length bytes) file_header_size then Err (Truncated 0)
     else checked_header bytes (kind_of_magic (take 4 bytes))

@@ -2,8 +2,8 @@
 use Rattle.std.specs.Prelude.{ℕ, ◌+◌}
 
 -- a file's header
-abbrev pub header_size : ℕ
-header_size = 24
+abbrev pub file_header_size : ℕ
+file_header_size = 24
 
 -- what stands before a record's frame
 abbrev pub record_size : ℕ

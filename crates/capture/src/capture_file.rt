@@ -1,7 +1,7 @@
 //! A capture that is a file of a shelf, read in pieces.
 
 ghost use Rattle.std.specs.Prelude.{◌≡◌, ◌+◌, ◌<◌, ◌≤◌, length, Ok, Err, IfOk, IsErrOf};
-ghost use Rattle.vnff_base.specs.Counts.{count_after};
+ghost use Rattle.vnff_base.specs.Counts.{count_with};
 ghost use Rattle.vnff_base.specs.Reads.{OfFile};
 ghost use Rattle.vnff_base.specs.Shelves.{HasCause, file_limit};
 ghost use Rattle.capture.specs.Files.{WasRead};
@@ -9,11 +9,8 @@ ghost use Rattle.capture.specs.Files.{WasRead};
 use crate::error::{CaptureErr, CaptureReadErr};
 use crate::feed::Feed;
 use crate::frames::Frames;
-use std::alloc::{AllocError, Global};
-use vnff_base::Shelf;
-
-/// How many bytes are asked of the shelf at once.
-const PIECE: usize = 65_536;
+use std::alloc::Global;
+use vnff_base::{Shelf, new_piece};
 
 /// Reads the capture that is the file of that name, from its first byte to its end, at most `limit` bytes of it, in
 /// pieces of at most 65,536 bytes. The limit is 64 MiB at most. The file is never held whole: beside the frames there
@@ -33,7 +30,7 @@ pub fn read_capture<S: Shelf>(
     ensures longer { IsErrOf result CaptureReadErr.TooLong
         → OfFile (S.state shelf.old) name.now (λ file. limit < length file) }
     ensures taken { IsErrOf result CaptureReadErr.TooLong
-        → count_after (S.state shelf.old).given (limit + 1) ≤ (S.state shelf.new).given }
+        → count_with (S.state shelf.old).given (limit + 1) ≤ (S.state shelf.new).given }
 
     // Only a read that failed touches the count of failures.
     ensures same_count { (IsErrOf result CaptureReadErr.ReadFault → ⊥)
@@ -65,11 +62,4 @@ pub fn read_capture<S: Shelf>(
         feed = fed;
         at += taken as u64;
     }
-}
-
-/// Room for one piece of a file, off the stack.
-fn new_piece(alloc: Global) -> Result<Vec<u8>, AllocError>
-    ensures { IfOk result (λ v. length v.items ≡ PIECE) }
-{
-    vec![in alloc; 0u8; PIECE]
 }

@@ -1,7 +1,7 @@
 //! Captures that come in pieces, and are never held whole.
 
 ghost use Rattle.std.specs.Prelude.{◌≡◌, ◌≢◌, ◌+◌, ◌^◌, ◌<◌, ◌≤◌, ℕ, List, [], ◌++◌, Some, None, Ok, length, drop, IfOk};
-ghost use Rattle.capture.specs.FileHeaders.{header_of};
+ghost use Rattle.capture.specs.FileHeaders.{file_header};
 ghost use Rattle.capture.specs.Captures.{capture_of};
 ghost use Rattle.capture.specs.Feeds.{StandsFor, IsFeed, IsFedOn, IsEnded, WereCut, is_lasting};
 
@@ -145,7 +145,7 @@ fn go_on(
     bytes: Vec<u8>,
 ) -> Result<Feed, AllocError>
     requires short { before + length bytes.items < 2 ^ 64 }
-    ensures stands { IfOk result (λ feed. (front : List ℕ) → length front ≡ before → header_of front ≡ Ok kind
+    ensures stands { IfOk result (λ feed. (front : List ℕ) → length front ≡ before → file_header front ≡ Ok kind
         → capture_of front ≡ Ok frames → StandsFor feed (front ++ bytes.items)) }
     ensures count { IfOk result (λ feed. feed.fault ≡ None
         → feed.before + length feed.rest ≡ before + length bytes.items) }

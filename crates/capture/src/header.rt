@@ -1,8 +1,8 @@
 //! The header of a capture file, 24 bytes.
 
 ghost use Rattle.std.specs.Prelude.{◌≡◌, ◌≤◌, length, OnOk};
-ghost use Rattle.capture.specs.Sizes.{header_size};
-ghost use Rattle.capture.specs.FileHeaders.{header_of, kind_of_magic, is_version_2_4, link_type};
+ghost use Rattle.capture.specs.Sizes.{file_header_size};
+ghost use Rattle.capture.specs.FileHeaders.{file_header, kind_of_magic, is_version_2_4, link_type};
 
 use crate::error::CaptureErr;
 use crate::number::{number16_at, number32_at};
@@ -33,10 +33,10 @@ pub struct CaptureHeader {
 /// Reads the header that a capture begins with. The faults are looked for in this order: fewer than 24 bytes, an
 /// unknown magic, another version than 2.4, another link type than Ethernet. Zone, accuracy, snap length and the upper
 /// 16 bits of the last number are ignored.
-#[tactic(auto, unfolding(crate::specs::FileHeaders::header_of, crate::specs::FileHeaders::checked_header))]
+#[tactic(auto, unfolding(crate::specs::FileHeaders::file_header, crate::specs::FileHeaders::checked_header))]
 pub fn read_header(bytes: &[u8]) -> Result<CaptureHeader, CaptureErr>
-    ensures value { result ≡ header_of bytes.now }
-    ensures whole { OnOk result (header_size ≤ length bytes.now) }
+    ensures value { result ≡ file_header bytes.now }
+    ensures whole { OnOk result (file_header_size ≤ length bytes.now) }
 {
     if bytes.len() < HEADER_SIZE {
         return Err(CaptureErr::Truncated(0));
@@ -87,7 +87,7 @@ fn kind_of_magic(four: &[u8]) -> Option<CaptureHeader>
 
 #[tactic(auto, unfolding(crate::specs::FileHeaders::is_version_2_4))]
 fn is_version_2_4(bytes: &[u8], big: bool) -> bool
-    requires { header_size ≤ length bytes.now }
+    requires { file_header_size ≤ length bytes.now }
     ensures { result ≡ is_version_2_4 big bytes.now }
 {
     number16_at(bytes, 4, big) == 2 && number16_at(bytes, 6, big) == 4
@@ -95,7 +95,7 @@ fn is_version_2_4(bytes: &[u8], big: bool) -> bool
 
 #[tactic(auto, unfolding(crate::specs::FileHeaders::link_type))]
 fn link_type(bytes: &[u8], big: bool) -> u32
-    requires { header_size ≤ length bytes.now }
+    requires { file_header_size ≤ length bytes.now }
     ensures { result ≡ link_type big bytes.now }
 {
     number32_at(bytes, 20, big) & 0xffff

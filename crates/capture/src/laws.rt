@@ -4,7 +4,7 @@ ghost use Rattle.std.specs.Prelude.{◌≡◌, ◌↔◌, ◌≤◌, ◌⊎◌, 
 ghost use Rattle.std.specs.List.{concat};
 ghost use Rattle.capture.specs.declared.error.CaptureErr.{CaptureErr};
 ghost use Rattle.capture.specs.Sizes.{longest_frame};
-ghost use Rattle.capture.specs.FileHeaders.{header_of};
+ghost use Rattle.capture.specs.FileHeaders.{file_header};
 ghost use Rattle.capture.specs.Feeds.{FeedState, StandsFor, AreFed, IsEnded};
 ghost use Rattle.capture.specs.Captures.{capture_of, capture_text, IsCapture, IsCaptureBad, IsRecordFault};
 
@@ -17,7 +17,7 @@ pub fn captures_are_a_header_and_records()
 /// bytes before that record are a capture. The offset that a fault carries is that of the record.
 pub fn a_fault_is_the_first()
     ensures { (bytes : List ℕ) (fault : CaptureErr) → IsCaptureBad bytes fault
-        → ((header_of bytes ≡ Err fault) ⊎ IsRecordFault bytes fault) }
+        → ((file_header bytes ≡ Err fault) ⊎ IsRecordFault bytes fault) }
 {}
 
 /// What is written of frames is a capture of these frames.

@@ -1,7 +1,7 @@
 //! All frames of a capture.
 
 ghost use Rattle.std.specs.Prelude.{◌≡◌, ◌+◌, ◌*◌, ◌≤◌, length, drop, IfOk, Err, MatchResult};
-ghost use Rattle.capture.specs.Sizes.{header_size, record_size};
+ghost use Rattle.capture.specs.Sizes.{file_header_size, record_size};
 ghost use Rattle.capture.specs.Records.{map_ok, with_front, records_of};
 ghost use Rattle.capture.specs.Captures.{Refuses, GivesFrames, IsCaptureBad, capture_of};
 
@@ -30,9 +30,10 @@ pub fn read_frames(alloc: Global, bytes: &[u8]) -> Result<Frames, FramesErr>
 /// How many frames a capture has, for which room is made.
 #[tactic(auto, using(crate::proofs::RecordLemmas::reading))]
 fn count_frames(bytes: &[u8], header: &CaptureHeader) -> Result<usize, CaptureErr>
-    requires { header_size ≤ length bytes.now }
-    ensures count { result ≡ map_ok length (records_of header.now.big header_size (drop header_size bytes.now)) }
-    ensures room { IfOk result (λ count. header_size + record_size * count ≤ length bytes.now) }
+    requires { file_header_size ≤ length bytes.now }
+    ensures count { let records = records_of header.now.big file_header_size (drop file_header_size bytes.now) in
+        result ≡ map_ok length records }
+    ensures room { IfOk result (λ count. file_header_size + record_size * count ≤ length bytes.now) }
 {
     let mut count = 0;
     let mut at = HEADER_SIZE;
@@ -46,11 +47,11 @@ fn count_frames(bytes: &[u8], header: &CaptureHeader) -> Result<usize, CaptureEr
 /// Appends the frames of a capture.
 #[tactic(auto, using(crate::proofs::RecordLemmas::reading))]
 fn add_frames(frames: &mut Frames, bytes: &[u8], header: &CaptureHeader) -> Result<(), FramesErr>
-    requires { header_size ≤ length bytes.now }
+    requires { file_header_size ≤ length bytes.now }
     ensures { MatchResult result
-        (λ _. with_front frames.old (records_of header.now.big header_size (drop header_size bytes.now))
+        (λ _. with_front frames.old (records_of header.now.big file_header_size (drop file_header_size bytes.now))
         ≡ Ok frames.new)
-        (λ err. Refuses err (records_of header.now.big header_size (drop header_size bytes.now))) }
+        (λ err. Refuses err (records_of header.now.big file_header_size (drop file_header_size bytes.now))) }
 {
     let mut at = HEADER_SIZE;
     while let Some(frame) = next_frame(bytes, header, at).map_err(FramesErr::Bad)? {

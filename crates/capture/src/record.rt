@@ -2,7 +2,7 @@
 
 ghost use Rattle.std.specs.Prelude.{◌≡◌, ◌+◌, ◌≤◌, ◌↔◌, length, IfOk, IfSome, Ok, None};
 ghost use Rattle.std.specs.Option.{option_copied};
-ghost use Rattle.capture.specs.Sizes.{header_size, record_size};
+ghost use Rattle.capture.specs.Sizes.{file_header_size, record_size};
 ghost use Rattle.capture.specs.Records.{map_ok, frame_of, next_of};
 
 use crate::error::CaptureErr;
@@ -24,7 +24,7 @@ pub fn next_frame<'a>(
     header: &CaptureHeader,
     at: usize,
 ) -> Result<Option<&'a [u8]>, CaptureErr>
-    requires from { header_size ≤ at }
+    requires from { file_header_size ≤ at }
     requires within { at ≤ length bytes.now }
     ensures value { map_ok option_copied result ≡ next_of header.now.big bytes.now at }
     ensures end { (result ≡ Ok None) ↔ (at ≡ length bytes.now) }

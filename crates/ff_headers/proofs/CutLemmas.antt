@@ -5,12 +5,12 @@ use Rattle.std.proofs.lemmas.Bool.Decides.{nat_tests}
 use Rattle.std.proofs.lemmas.List.{length-take}
 use Rattle.ff_headers.specs.Kinds.{kind_size}
 use Rattle.ff_headers.specs.Fields.{ether_type, ip_version, ipv4_words, ipv4_fragment_offset, ipv4_protocol, ipv6_next_header}
-use Rattle.ff_headers.specs.Frames.{header_bytes, bytes_at, part_of, eth_field, ip_field, names_ip, has_ipv4, has_ipv6, ipv4_end, ip_end, carries, is_named, place_in, header_at, header_of, headers_of}
+use Rattle.ff_headers.specs.Frames.{header_bytes, frame_part, named_part, eth_field, ip_field, names_ip, has_ipv4, has_ipv6, ipv4_end, ip_end, carries, is_named, place_in, header_at, header_of, headers_of}
 use Rattle.ff_headers.specs.Cuts.{StandsIn, needed_for}
 use Rattle.ff_headers.specs.declared.kind.Kind.{Kind}
 use Rattle.ff_headers.specs.declared.kind.Kind.TheVariants.{Eth, Ipv4, Ipv6, Tcp, Udp}
 use Rattle.ff_headers.specs.declared.field.Field.{Field}
-use Rattle.ff_headers.proofs.FrameLemmas.{bytes_at-within, one_ip, ipv4_is_long, ipv6_is_long}
+use Rattle.ff_headers.proofs.FrameLemmas.{frame_part-within, one_ip, ipv4_is_long, ipv6_is_long}
 
 pub header_at-of : (frame : List ℕ) (kind : Kind) → header_at (headers_of frame) kind ≡ header_of kind frame
 unfolding headers_of
@@ -22,24 +22,24 @@ header_at-of frame Udp = refl
 
 -- ---- a part that is named and inside the frame
 
-part_inside : (named : Bool) (place size : ℕ) (frame : List ℕ) → IsSome (part_of named place size frame) → (named ≡ true) × (place + size ≤ length frame)
+part_inside : (named : Bool) (place size : ℕ) (frame : List ℕ) → IsSome (named_part named place size frame) → (named ≡ true) × (place + size ≤ length frame)
 part_inside named place size frame = by_tests named (leb (place + size) (length frame)) refl
   where
-    by_tests : (a b : Bool) → leb (place + size) (length frame) ≡ b → IsSome (cond (a && b) (Some (bytes_at place size frame)) None) → (a ≡ true) × (place + size ≤ length frame)
+    by_tests : (a b : Bool) → leb (place + size) (length frame) ≡ b → IsSome (cond (a && b) (Some (frame_part place size frame)) None) → (a ≡ true) × (place + size ≤ length frame)
     by_tests true true inside some = (refl, grind (arith, nat_tests))
     by_tests true false inside some = absurd cc
     by_tests false b inside some = absurd cc
 
-part_is_there : (named : Bool) (place size : ℕ) (frame : List ℕ) → named ≡ true → place + size ≤ length frame → part_of named place size frame ≡ Some (bytes_at place size frame)
+part_is_there : (named : Bool) (place size : ℕ) (frame : List ℕ) → named ≡ true → place + size ≤ length frame → named_part named place size frame ≡ Some (frame_part place size frame)
 part_is_there named place size frame is inside =
     let reached : leb (place + size) (length frame) ≡ true = grind (arith, nat_tests) in
     rw (is, reached) refl
 
-part_stands : (kind : Kind) (frame : List ℕ) (named : Bool) → IfSome (part_of named (place_in kind frame) (kind_size kind) frame) (StandsIn kind frame)
+part_stands : (kind : Kind) (frame : List ℕ) (named : Bool) → IfSome (named_part named (place_in kind frame) (kind_size kind) frame) (StandsIn kind frame)
 part_stands kind frame named = by_tests named (leb (place_in kind frame + kind_size kind) (length frame)) refl
   where
     by_tests : (a b : Bool) → leb (place_in kind frame + kind_size kind) (length frame) ≡ b
-        → IfSome (cond (a && b) (Some (bytes_at (place_in kind frame) (kind_size kind) frame)) None) (StandsIn kind frame)
+        → IfSome (cond (a && b) (Some (frame_part (place_in kind frame) (kind_size kind) frame)) None) (StandsIn kind frame)
     by_tests true true inside = record { inside = grind (arith, nat_tests); there = refl }
     by_tests true false inside = tt
     by_tests false b inside = tt
@@ -75,17 +75,17 @@ reaches-take end n frame = rw length-take (both end n (length frame))
     both : (a b c : ℕ) → leb a (min b c) ≡ (leb a b && leb a c)
     both a b c = grind (arith, nat_tests)
 
-bytes_at-take : (place size n : ℕ) (frame : List ℕ) → place + size ≤ n → bytes_at place size (take n frame) ≡ bytes_at place size frame
-bytes_at-take place size n frame within =
-    bytes_at-within 0 n place size frame within ∙ ap (λ p. bytes_at p size frame) (omega arith)
+frame_part-take : (place size n : ℕ) (frame : List ℕ) → place + size ≤ n → frame_part place size (take n frame) ≡ frame_part place size frame
+frame_part-take place size n frame within =
+    frame_part-within 0 n place size frame within ∙ ap (λ p. frame_part p size frame) (omega arith)
 
 eth_field-take : (f : Field) (n : ℕ) (frame : List ℕ) → 14 ≤ n → eth_field f (take n frame) ≡ eth_field f frame
 unfolding eth_field
-eth_field-take f n frame within = rw (bytes_at-take 0 14 n frame (omega arith)) refl
+eth_field-take f n frame within = rw (frame_part-take 0 14 n frame (omega arith)) refl
 
 ip_field-take : (kind : Kind) (f : Field) (n : ℕ) (frame : List ℕ) → 14 + kind_size kind ≤ n → ip_field kind f (take n frame) ≡ ip_field kind f frame
 unfolding ip_field
-ip_field-take kind f n frame within = rw (bytes_at-take 14 (kind_size kind) n frame within) refl
+ip_field-take kind f n frame within = rw (frame_part-take 14 (kind_size kind) n frame within) refl
 
 names_ip-take : (kind : Kind) (type version n : ℕ) (frame : List ℕ) → names_ip kind type version (take n frame) ≡ (leb (14 + kind_size kind) n && names_ip kind type version frame)
 unfolding names_ip
@@ -171,13 +171,13 @@ ip_end-take n frame within = rw (has_ipv4-take n frame) (by_ip (has_ipv4 frame) 
         rw (room, ip_field-take Ipv4 ipv4_words n frame (omega arith)) refl
     by_ip false is inside = rw (and_false (leb (ipv4_end frame) n)) refl
 
-part-take : (named : Bool) (place size n : ℕ) (frame : List ℕ) → part_of named place size (take n frame) ≡ cond (leb (place + size) n) (part_of named place size frame) None
+part-take : (named : Bool) (place size n : ℕ) (frame : List ℕ) → named_part named place size (take n frame) ≡ cond (leb (place + size) n) (named_part named place size frame) None
 part-take named place size n frame = rw (reaches-take (place + size) n frame) (by_room (leb (place + size) n) refl)
   where
     by_room : (r : Bool) → leb (place + size) n ≡ r
-        → cond (named && (r && leb (place + size) (length frame))) (Some (bytes_at place size (take n frame))) None
-        ≡ cond r (part_of named place size frame) None
-    by_room true is = rw (bytes_at-take place size n frame (grind (arith, nat_tests))) refl
+        → cond (named && (r && leb (place + size) (length frame))) (Some (frame_part place size (take n frame))) None
+        ≡ cond r (named_part named place size frame) None
+    by_room true is = rw (frame_part-take place size n frame (grind (arith, nat_tests))) refl
     by_room false is = rw (and_false named) refl
 
 -- a part whose name wants more of the frame than the part has
@@ -189,12 +189,12 @@ sifted false false named held x h = refl
 sifted false true true held x h = let e = h refl refl in absurd cc
 sifted false true false held x h = refl
 
-ports-take : (protocol size n : ℕ) (frame : List ℕ) → part_of (carries protocol (take n frame)) (ip_end (take n frame)) size (take n frame)
-    ≡ cond (leb (ip_end frame + size) n) (part_of (carries protocol frame) (ip_end frame) size frame) None
+ports-take : (protocol size n : ℕ) (frame : List ℕ) → named_part (carries protocol (take n frame)) (ip_end (take n frame)) size (take n frame)
+    ≡ cond (leb (ip_end frame + size) n) (named_part (carries protocol frame) (ip_end frame) size frame) None
 ports-take protocol size n frame = rw (carries-take protocol n frame) (by_room (leb (ip_end frame) n) refl)
   where
-    by_room : (r : Bool) → leb (ip_end frame) n ≡ r → part_of (r && carries protocol frame) (ip_end (take n frame)) size (take n frame)
-        ≡ cond (leb (ip_end frame + size) n) (part_of (carries protocol frame) (ip_end frame) size frame) None
+    by_room : (r : Bool) → leb (ip_end frame) n ≡ r → named_part (r && carries protocol frame) (ip_end (take n frame)) size (take n frame)
+        ≡ cond (leb (ip_end frame + size) n) (named_part (carries protocol frame) (ip_end frame) size frame) None
     by_room true is = rw (ip_end-take n frame (grind (arith, nat_tests))) (part-take (carries protocol frame) (ip_end frame) size n frame)
     by_room false is =
         let short : leb (ip_end frame + size) n ≡ false = grind (arith, nat_tests) in

@@ -65,8 +65,8 @@ abbrev pub udp_protocol : ℕ
 udp_protocol = 17
 
 -- so many bytes from a place on
-abbrev pub bytes_at : ℕ → ℕ → List ℕ → List ℕ
-bytes_at place size frame = take size (drop place frame)
+abbrev pub frame_part : ℕ → ℕ → List ℕ → List ℕ
+frame_part place size frame = take size (drop place frame)
 
 -- the frame has so many bytes
 abbrev pub reaches : ℕ → List ℕ → Bool
@@ -78,11 +78,11 @@ ip_place = kind_size Eth
 
 -- a field of the Ethernet header
 unfoldable pub eth_field : Field → List ℕ → ℕ
-eth_field f frame = value_at f (bytes_at 0 (kind_size Eth) frame)
+eth_field f frame = value_at f (frame_part 0 (kind_size Eth) frame)
 
 -- a field of the IP header of a kind
 unfoldable pub ip_field : Kind → Field → List ℕ → ℕ
-ip_field kind f frame = value_at f (bytes_at ip_place (kind_size kind) frame)
+ip_field kind f frame = value_at f (frame_part ip_place (kind_size kind) frame)
 
 -- the bytes of an IP header are there, the frame's type names it, and its version is its kind's
 unfoldable pub names_ip : Kind → ℕ → ℕ → List ℕ → Bool
@@ -136,13 +136,13 @@ place_in Tcp frame = ip_end frame
 place_in Udp frame = ip_end frame
 
 -- so many bytes from a place on, where they are named and the frame has as many
-abbrev pub part_of : Bool → ℕ → ℕ → List ℕ → Option (List ℕ)
-part_of named place size frame =
-    if named && reaches (place + size) frame then Some (bytes_at place size frame) else None
+abbrev pub named_part : Bool → ℕ → ℕ → List ℕ → Option (List ℕ)
+named_part named place size frame =
+    if named && reaches (place + size) frame then Some (frame_part place size frame) else None
 
 -- the frame's header of the kind, without options
 abbrev pub header_of : Kind → List ℕ → Option (List ℕ)
-header_of kind frame = part_of (is_named kind frame) (place_in kind frame) (kind_size kind) frame
+header_of kind frame = named_part (is_named kind frame) (place_in kind frame) (kind_size kind) frame
 
 -- the headers of a frame
 unfoldable pub headers_of : List ℕ → HeaderBytes

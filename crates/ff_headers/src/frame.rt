@@ -2,7 +2,7 @@
 
 ghost use Rattle.std.specs.Prelude.{◌≡◌, true, ◌+◌, ◌≤◌, length, if◌then◌else◌};
 ghost use Rattle.ff_headers.specs.Fields.{number};
-ghost use Rattle.ff_headers.specs.Frames.{bytes_at, part_of, names_ip, ipv4_end, has_ipv4, has_ipv6, carries};
+ghost use Rattle.ff_headers.specs.Frames.{frame_part, named_part, names_ip, ipv4_end, has_ipv4, has_ipv6, carries};
 
 use crate::kind::Kind;
 
@@ -74,7 +74,7 @@ fn ipv4_carries(frame: &[u8], protocol: u8) -> bool
 
 /// The bytes from a place on, where they are named and there are as many.
 pub(crate) fn part_if<const N: usize>(named: bool, frame: &[u8], place: usize) -> Option<[u8; N]>
-    ensures { result ≡ part_of named place N frame.now }
+    ensures { result ≡ named_part named place N frame.now }
 {
     if !named {
         return None;
@@ -85,7 +85,7 @@ pub(crate) fn part_if<const N: usize>(named: bool, frame: &[u8], place: usize) -
 /// The number that two bytes spell, the first one the most significant.
 fn number_at(frame: &[u8], place: usize) -> u16
     requires { place + 2 ≤ length frame.now }
-    ensures { result ≡ number (bytes_at place 2 frame.now) }
+    ensures { result ≡ number (frame_part place 2 frame.now) }
 {
     u16::from_be_bytes([frame[place], frame[place + 1]])
 }

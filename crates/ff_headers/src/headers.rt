@@ -7,11 +7,11 @@ use crate::frame::{IP_PLACE, IPV6_END, carries, has_ipv6, ipv4_end, part_if};
 use crate::kind::Kind;
 use std::marker::Model;
 
-/// The protocol of TCP.
-const TCP: u8 = 6;
+/// The IP protocol number of TCP.
+pub const PROTOCOL_TCP: u8 = 6;
 
-/// The protocol of UDP.
-const UDP: u8 = 17;
+/// The IP protocol number of UDP.
+pub const PROTOCOL_UDP: u8 = 17;
 
 /// The headers of a frame, as copies of their bytes.
 #[derive(Clone, Copy, Debug, PartialEq, Eq)]
@@ -46,8 +46,8 @@ impl Headers {
             eth: part_if(true, frame, 0),
             ipv4: part_if(is_ipv4, frame, IP_PLACE),
             ipv6: part_if(is_ipv6, frame, IP_PLACE),
-            tcp: part_if(carries(frame, is_ipv4, is_ipv6, TCP), frame, end),
-            udp: part_if(carries(frame, is_ipv4, is_ipv6, UDP), frame, end),
+            tcp: part_if(carries(frame, is_ipv4, is_ipv6, PROTOCOL_TCP), frame, end),
+            udp: part_if(carries(frame, is_ipv4, is_ipv6, PROTOCOL_UDP), frame, end),
         }
     }
 

@@ -35,10 +35,10 @@ mod steps;
 
 pub use change::Change;
 pub use field::{Field, fields_of};
-pub use headers::Headers;
+pub use headers::{Headers, PROTOCOL_TCP, PROTOCOL_UDP};
 pub use kind::Kind;
 pub use limits::Limits;
-pub use mask_rule::{allowed, is_partial};
+pub use mask_rule::{PARTIAL_MASK, allowed, is_partial};
 pub use matching::matches;
 pub use rule::{Action, Key, RuleAction, RuleObj};
 pub use selector::Selector;

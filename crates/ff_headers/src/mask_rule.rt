@@ -7,8 +7,8 @@ ghost use Rattle.ff_headers.specs.Fields.{LiesWithin, is_partial, has_bits, keep
 use crate::field::{Field, fields_of};
 use crate::selector::Selector;
 
-/// The flag of a capability's selector by which any part of its mask may be asked for.
-const PARTIAL_MASK: u8 = 1;
+/// The flag of a selector by which any part of its mask may be asked for (`VIRTIO_NET_FF_MASK_F_PARTIAL_MASK`).
+pub const PARTIAL_MASK: u8 = 1;
 
 /// Whether a capability's selector allows the mask of a wanted one, of the same header. With PARTIAL_MASK among its
 /// flags it does where every bit of the wanted mask is one of its own; without it, where of each field the wanted

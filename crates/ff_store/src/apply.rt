@@ -16,16 +16,23 @@ impl Store {
     pub fn apply(&mut self, change: Change)
         ensures { self.new ≡ with_change self.old change }
     {
-        if !self.is_sound(&change) {
-            return;
+        if self.is_sound(&change) {
+            self.apply_sound(&change);
         }
+    }
+
+    /// Makes a sound change, and keeps a copy of what it puts.
+    pub fn apply_sound(&mut self, change: &Change)
+        requires { is_sound self.old.limits self.old.objects change.now ≡ true }
+        ensures { self.new ≡ with_change self.old change.now }
+    {
         match change {
-            Change::PutGroup(id, priority) => self.put_group(id, priority),
-            Change::DropGroup(id) => self.drop_group(id),
-            Change::PutClassifier(id, selectors) => self.put_classifier(id, selectors),
-            Change::DropClassifier(id) => self.drop_classifier(id),
-            Change::PutRule(id, rule) => self.put_rule(id, rule),
-            Change::DropRule(id) => self.drop_rule(id),
+            Change::PutGroup(id, priority) => self.put_group(*id, *priority),
+            Change::DropGroup(id) => self.drop_group(*id),
+            Change::PutClassifier(id, selectors) => self.put_classifier(*id, selectors.copy()),
+            Change::DropClassifier(id) => self.drop_classifier(*id),
+            Change::PutRule(id, rule) => self.put_rule(*id, rule.copy()),
+            Change::DropRule(id) => self.drop_rule(*id),
             Change::Close => {}
         }
     }

@@ -6,7 +6,7 @@ use Rattle.ff_headers.specs.Fields.{is_allowed}
 use Rattle.ntuple_text.specs.declared.spec.Spec.{Spec}
 use Rattle.ntuple_text.specs.declared.spec.TableDo.{TableDo}
 use Rattle.ntuple_text.specs.declared.spec.TableDo.TheVariants.{Drop}
-use Rattle.ntuple_compile.specs.Compiled.{Shape, each_once, same_shape, shapes_of, spec_fault}
+use Rattle.ntuple_compile.specs.Compiled.{SelectorList, each_once, same_shape, shapes_of, spec_fault}
 use Rattle.ntuple_compile.specs.Selected.{mask_for, selectors_of}
 use Rattle.generated_load.specs.Draws.{draw}
 use Rattle.generated_load.specs.DrawnTables.{drawn_criteria, drawn_spec, ip_criteria, load_caps, spec_with, tcp_criteria, udp_criteria}
@@ -14,17 +14,17 @@ use Rattle.generated_load.specs.DrawnTables.{drawn_criteria, drawn_spec, ip_crit
 -- ---- the three shapes
 
 -- those of a spec at location 0
-abbrev udp_shape : Shape
+abbrev udp_shape : SelectorList
 udp_shape = selectors_of (spec_with (udp_criteria 0).1 Drop 0)
 
-abbrev tcp_shape : Shape
+abbrev tcp_shape : SelectorList
 tcp_shape = selectors_of (spec_with (tcp_criteria 0).1 Drop 0)
 
-abbrev ip_shape : Shape
+abbrev ip_shape : SelectorList
 ip_shape = selectors_of (spec_with (ip_criteria 0).1 Drop 0)
 
 -- a shape is one of the three
-abbrev IsKnown : Shape → Type 0
+abbrev IsKnown : SelectorList → Type 0
 IsKnown shape = (shape ≡ udp_shape) ⊎ (shape ≡ tcp_shape) ⊎ (shape ≡ ip_shape)
 
 -- the device has its selectors, and its shape is known
@@ -59,12 +59,12 @@ spec-fine loc x = criteria-fine x loc _
 -- ---- how many shapes a list has
 
 -- how many shapes of a list are this one
-abbrev hits : Shape → List Shape → ℕ
+abbrev hits : SelectorList → List SelectorList → ℕ
 hits shape [] = 0
 hits shape (one ∷ rest) = cond (same_shape shape one) 1 0 + hits shape rest
 
 -- leaving out shapes makes it no more
-hits-filter : (shape : Shape) (keep : Shape → Bool) (list : List Shape) → hits shape (filter keep list) ≤ hits shape list
+hits-filter : (shape : SelectorList) (keep : SelectorList → Bool) (list : List SelectorList) → hits shape (filter keep list) ≤ hits shape list
 hits-filter shape keep [] = omega arith
 hits-filter shape keep (one ∷ rest) = by_test (keep one) (hits-filter shape keep rest) where
   by_test : (b : Bool) → hits shape (filter keep rest) ≤ hits shape rest → hits shape (cond b (one ∷ filter keep rest) (filter keep rest)) ≤ hits shape (one ∷ rest)
@@ -72,7 +72,7 @@ hits-filter shape keep (one ∷ rest) = by_test (keep one) (hits-filter shape ke
   by_test false h = omega (arith, h)
 
 -- none is left where all that are this one are left out
-hits-none : (shape : Shape) (list : List Shape) → hits shape (filter (λ one. not (same_shape shape one)) list) ≡ 0
+hits-none : (shape : SelectorList) (list : List SelectorList) → hits shape (filter (λ one. not (same_shape shape one)) list) ≡ 0
 hits-none shape [] = refl
 hits-none shape (one ∷ rest) = by_test (same_shape shape one) refl (hits-none shape rest) where
   by_test : (b : Bool) → same_shape shape one ≡ b → hits shape (filter (λ other. not (same_shape shape other)) rest) ≡ 0 → hits shape (cond (not b) (one ∷ filter (λ other. not (same_shape shape other)) rest) (filter (λ other. not (same_shape shape other)) rest)) ≡ 0
@@ -86,13 +86,13 @@ all-filter P keep (one ∷ rest) all = by_test (keep one) (all-filter P keep res
   by_test true h = (all.0, h)
   by_test false h = h
 
-once-known : (list : List Shape) → AllByRecursion IsKnown list → AllByRecursion IsKnown (each_once list)
+once-known : (list : List SelectorList) → AllByRecursion IsKnown list → AllByRecursion IsKnown (each_once list)
 once-known [] all = tt
 once-known (one ∷ rest) all = (all.0, all-filter IsKnown (λ other. not (same_shape one other)) (each_once rest) (once-known rest all.1))
 
 -- a known shape is this one or another
-abbrev IsApart : Shape → Type 0
-IsApart shape = (one : Shape) → IsKnown one → (same_shape shape one ≡ false) ⊎ (one ≡ shape)
+abbrev IsApart : SelectorList → Type 0
+IsApart shape = (one : SelectorList) → IsKnown one → (same_shape shape one ≡ false) ⊎ (one ≡ shape)
 
 udp-apart : IsApart udp_shape
 unfolding udp_criteria tcp_criteria ip_criteria selectors_of mask_for
@@ -116,14 +116,14 @@ at_most_one : (b : Bool) → cond b 1 0 ≤ 1
 at_most_one true = omega arith
 at_most_one false = omega arith
 
-single-same : (shape one : Shape) (rest : List Shape) → one ≡ shape → hits shape (one ∷ filter (λ other. not (same_shape one other)) rest) ≤ 1
+single-same : (shape one : SelectorList) (rest : List SelectorList) → one ≡ shape → hits shape (one ∷ filter (λ other. not (same_shape one other)) rest) ≤ 1
 single-same shape one rest is =
-    let P : Shape → Type 0 = λ s. hits shape (s ∷ filter (λ other. not (same_shape s other)) rest) ≤ 1 in
+    let P : SelectorList → Type 0 = λ s. hits shape (s ∷ filter (λ other. not (same_shape s other)) rest) ≤ 1 in
     let here : P shape = omega (arith, at_most_one (same_shape shape shape), hits-none shape rest) in
     subst P (sym is) here
 
 -- of the shapes, each once, no more than one is this one
-single : (shape : Shape) → IsApart shape → (list : List Shape) → AllByRecursion IsKnown list → hits shape (each_once list) ≤ 1
+single : (shape : SelectorList) → IsApart shape → (list : List SelectorList) → AllByRecursion IsKnown list → hits shape (each_once list) ≤ 1
 single shape apart [] all = omega arith
 single shape apart (one ∷ rest) all =
     ⊎_elim
@@ -132,13 +132,13 @@ single shape apart (one ∷ rest) all =
     (apart one all.0)
 
 -- a known shape is one of the three
-known-once : (one : Shape) → IsKnown one → 1 ≤ cond (same_shape udp_shape one) 1 0 + cond (same_shape tcp_shape one) 1 0 + cond (same_shape ip_shape one) 1 0
+known-once : (one : SelectorList) → IsKnown one → 1 ≤ cond (same_shape udp_shape one) 1 0 + cond (same_shape tcp_shape one) 1 0 + cond (same_shape ip_shape one) 1 0
 unfolding udp_criteria tcp_criteria ip_criteria selectors_of mask_for
 known-once one (inl is) = rw is (omega arith)
 known-once one (inr (inl is)) = rw is (omega arith)
 known-once one (inr (inr is)) = rw is (omega arith)
 
-covered : (list : List Shape) → AllByRecursion IsKnown list → length list ≤ hits udp_shape list + hits tcp_shape list + hits ip_shape list
+covered : (list : List SelectorList) → AllByRecursion IsKnown list → length list ≤ hits udp_shape list + hits tcp_shape list + hits ip_shape list
 covered [] all = omega arith
 covered (one ∷ rest) all = omega (arith, known-once one all.0, covered rest all.1)
 

@@ -3,6 +3,7 @@ use Rattle.std.specs.Prelude.{ℕ, ◌<◌, slice_index, Bool, true, false, ◌=
 use Rattle.std.specs.List.{range_with_len}
 use Rattle.ff_headers.specs.declared.rule.Action.{Action}
 use Rattle.ff_headers.specs.declared.rule.Action.TheVariants.{Default, Drop, Queue}
+use Rattle.cap_table.specs.Caps.{most_pairs}
 use Rattle.generated_load.specs.declared.counts.ActionCounts.{ActionCounts}
 
 abbrev pub is_drop : Action → Bool
@@ -24,10 +25,10 @@ pub record AreBelow (limit : ℕ) (counts : ActionCounts) : Type 0 where
   pub default : counts.default < limit
   pub queues : (queue : ℕ) → slice_index counts.queues queue < limit
 
--- how many of the actions are drops, defaults, and each of the queues 0 to 15
+-- how many of the actions are drops, defaults, and each of the queues that a device may have
 unfoldable pub counts_of : List Action → ActionCounts
 counts_of actions = record {
   drop = count_by is_drop actions;
   default = count_by is_default actions;
-  queues = map (λ number. count_by (is_queue number) actions) (range_with_len 0 16);
+  queues = map (λ number. count_by (is_queue number) actions) (range_with_len 0 most_pairs);
 }

@@ -1,6 +1,6 @@
 -- The table that is drawn from a seed, and the device that it is for. This project's own.
 use Rattle.std.specs.Prelude.{ℕ, ◌+◌, ◌*◌, ◌==◌, if◌then◌else◌, List, map, Option, Some, None}
-use Rattle.cap_table.specs.Caps.{CapsParts, all_selectors}
+use Rattle.cap_table.specs.Caps.{CapsParts, all_selectors, greatest_limits, most_pairs}
 use Rattle.ntuple_text.specs.Spellable.{AreSpelled}
 use Rattle.ntuple_text.specs.TableMaps.{TableMap, location_count}
 use Rattle.ntuple_text.specs.declared.spec.Flow.TheVariants.{Ip4, Tcp4, Udp4}
@@ -93,13 +93,8 @@ drawn_specs seed = each_drawn drawn_spec location_count seed
 
 -- the table of a seed
 unfoldable pub drawn_table : ℕ → TableMap
-drawn_table seed = record { pairs = 16; slots = map Some (drawn_specs seed).1 }
+drawn_table seed = record { pairs = most_pairs; slots = map Some (drawn_specs seed).1 }
 
--- the device that it is for: `device 16 16 64 1024 1024 255 3`
+-- the device that it is for, the greatest one: `device 16 16 64 1024 1024 255 3`
 abbrev pub load_caps : CapsParts
-load_caps = record {
-  pairs = 16;
-  limits =
-      record { groups = 16; classifiers = 64; rules = 1024; per_group = 1024; last_priority = 255; selectors = 3 };
-  selectors = all_selectors;
-}
+load_caps = record { pairs = most_pairs; limits = greatest_limits; selectors = all_selectors }

@@ -4,12 +4,13 @@ ghost use Rattle.std.specs.Prelude.{◌≡◌, ◌^◌, List, [], ◌∷◌, ◌
 ghost use Rattle.ff_headers.specs.declared.rule.Action.{Action as Done};
 ghost use Rattle.generated_load.specs.Counts.{AreBelow, counts_of};
 
+use cap_table::MOST_PAIRS;
 use ff_headers::Action;
 
-/// How many queues are counted.
-const QUEUES: usize = 16;
+/// How many queues are counted: as many as a device may have.
+const QUEUES: usize = MOST_PAIRS as usize;
 
-/// How many frames were dropped, how many got the default, and how many each of the queues 0 to 15 got.
+/// How many frames were dropped, how many got the default, and how many each queue got.
 #[derive(Clone, Copy, Debug, PartialEq, Eq)]
 pub struct ActionCounts {
     pub drop: u64,

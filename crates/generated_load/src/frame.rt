@@ -4,6 +4,7 @@ ghost use Rattle.std.specs.Prelude.{◌≡◌};
 ghost use Rattle.generated_load.specs.DrawnFrames.{drawn_datagram, drawn_frame, frame_bytes, port_bytes};
 
 use crate::draws::draw;
+use ff_headers::{PROTOCOL_TCP, PROTOCOL_UDP};
 
 /// How many bytes a frame has.
 pub const FRAME_BYTES: usize = 54;
@@ -13,12 +14,6 @@ const ETHER_TYPE: [u8; 2] = [0x08, 0x00];
 
 /// What an IPv4 header of 20 bytes has before its protocol: a total length of 40 bytes, and 64 hops.
 const IP_START: [u8; 9] = [0x45, 0x00, 0x00, 0x28, 0x00, 0x00, 0x00, 0x00, 0x40];
-
-/// The protocol of TCP.
-const TCP: u8 = 6;
-
-/// The protocol of UDP.
-const UDP: u8 = 17;
 
 /// What a frame carries, from 10.0.NET.HOST to 10.1.NET.HOST.
 #[derive(Clone, Copy, Debug)]
@@ -54,7 +49,11 @@ fn drawn_datagram(x: u64) -> (u64, Datagram)
     let (x, source_port) = draw(x, 65536);
     let (x, destination_port) = draw(x, 4096);
     let datagram = Datagram {
-        protocol: if protocol == 0 { TCP } else { UDP },
+        protocol: if protocol == 0 {
+            PROTOCOL_TCP
+        } else {
+            PROTOCOL_UDP
+        },
         source_net: source_net as u8,
         source_host: source_host as u8,
         destination_net: destination_net as u8,

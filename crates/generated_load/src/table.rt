@@ -8,13 +8,9 @@ ghost use Rattle.generated_load.specs.DrawnTables.{drawn_table, ip_criteria, loa
 ghost use Rattle.generated_load.specs.DrawnTables.{udp_criteria, whole};
 
 use crate::draws::draw;
-use cap_table::DeviceCaps;
-use ff_headers::Limits;
+use cap_table::{DeviceCaps, GREATEST_LIMITS, MOST_PAIRS};
 use ntuple_text::{Flow, Part, Spec, Table, TableDo};
 use std::alloc::{AllocError, Global};
-
-/// The queue pairs of the device, and so of the table.
-const PAIRS: u8 = 16;
 
 /// How many locations a table has.
 const LOCATIONS: u16 = 1024;
@@ -32,15 +28,7 @@ pub struct Criteria {
 pub fn load_caps() -> DeviceCaps
     ensures { result ≡ load_caps }
 {
-    let limits = Limits {
-        groups: 16,
-        classifiers: 64,
-        rules: 1024,
-        per_group: 1024,
-        last_priority: 255,
-        selectors: 3,
-    };
-    DeviceCaps::with_all_selectors(PAIRS, limits)
+    DeviceCaps::with_all_selectors(MOST_PAIRS, GREATEST_LIMITS)
 }
 
 /// The table that is drawn from a seed, with a spec at each location, and the state after it.
@@ -48,7 +36,7 @@ pub fn drawn_table(alloc: Global, seed: u64) -> Result<(u64, Table), AllocError>
     ensures state { IfOk result (λ drawn. drawn.0 ≡ (drawn_specs seed).0) }
     ensures table { IfOk result (λ drawn. drawn.1 ≡ drawn_table seed) }
 {
-    let mut table = Table::empty(alloc, PAIRS)?;
+    let mut table = Table::empty(alloc, MOST_PAIRS)?;
     let mut x = seed;
     for loc in 0..LOCATIONS {
         let (next, spec) = drawn_spec(loc, x);

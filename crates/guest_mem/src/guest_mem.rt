@@ -1,7 +1,8 @@
 //! The memory of a guest.
 ghost use Rattle.std.specs.Prelude.{◌≡◌, replicate, length, IfOk, OnOk, OnErr};
 ghost use Rattle.std.specs.Result.{result_err};
-ghost use Rattle.guest_mem.specs.Memory.{IsBytes, access_answer, bytes_at, with_bytes, WritesAt};
+ghost use Rattle.byte_numbers.specs.Bytes.{IsBytes};
+ghost use Rattle.guest_mem.specs.Memory.{access_answer, bytes_at, with_bytes, WritesAt};
 
 use crate::mem_err::MemErr;
 use std::alloc::{AllocError, Global};
@@ -15,7 +16,7 @@ pub struct GuestMem {
 
 impl Model for GuestMem {
     ghost use Rattle.std.specs.Prelude.{ℕ, List};
-    ghost use Rattle.guest_mem.specs.Memory.{IsBytes};
+    ghost use Rattle.byte_numbers.specs.Bytes.{IsBytes};
 
     ghost Value = { List ℕ };
 

@@ -15,8 +15,8 @@ use Rattle.ff_headers.specs.Frames.{HeaderBytes, header_at}
 use Rattle.ff_headers.specs.Matching.{masked}
 use Rattle.ff_headers.specs.declared.kind.Kind.{Kind}
 use Rattle.ff_headers.specs.Objects.{FlowObjects}
-use Rattle.matcher.specs.Keys.{Shape, shape_of, part_of, frame_key, joined}
-use Rattle.matcher.specs.Rows.{Kept, kept_under, selectors_at, id_of, AreApart, AreRows}
+use Rattle.matcher.specs.Keys.{Shape, shape_of, kind_and_mask, frame_key, joined_with}
+use Rattle.matcher.specs.Rows.{Kept, kept_under, selectors_at, id_of, AreDistinctShapes, AreRows}
 use Rattle.matcher.specs.Searches.{HasRow, AreOfNumbers, AreAllCarried, Differ, IsShapeCost, IsTotalCost}
 use Rattle.matcher.specs.Comparisons.{IsUsed, HasHeaders, IsBounded}
 use Rattle.matcher.specs.declared.rows.Row.{Row}
@@ -61,7 +61,7 @@ module _ (shapes : List (List SelectorParts)) (rows : List Row) (headers : Heade
   shape : ℕ → Shape
   shape i = shape_of (selectors_at shapes i)
 
-  module _ (n before mid after : ℕ) (apart : AreApart shapes) (inside : n < length shapes) (was : IsTotalCost shapes rows headers n before mid) (cost : IsShapeCost shapes rows headers n mid after) where
+  module _ (n before mid after : ℕ) (apart : AreDistinctShapes shapes) (inside : n < length shapes) (was : IsTotalCost shapes rows headers n before mid) (cost : IsShapeCost shapes rows headers n mid after) where
     abbrev own : Shape
     own = shape_of (selectors_at shapes n)
 
@@ -160,8 +160,8 @@ key_of_headers : (headers : HeaderBytes) (selectors : List SelectorParts) → Al
 key_of_headers headers [] all = refl
 key_of_headers headers (s ∷ ss) all =
     let P : Kind × List ℕ → Type 0 = λ part. IsSome (header_at headers part.0) in
-    by (header_at headers s.kind) (frame_key ss headers) (All-head P (part_of s) (shape_of ss) all) (key_of_headers headers ss (All-tail P (part_of s) (shape_of ss) all)) where
-      by : (o p : Option (List ℕ)) → IsSome o → IsSome p → IsSome (option_map_or (λ value. joined (masked s.mask value) p) o None)
+    by (header_at headers s.kind) (frame_key ss headers) (All-head P (kind_and_mask s) (shape_of ss) all) (key_of_headers headers ss (All-tail P (kind_and_mask s) (shape_of ss) all)) where
+      by : (o p : Option (List ℕ)) → IsSome o → IsSome p → IsSome (option_map_or (λ value. joined_with (masked s.mask value) p) o None)
       by None p a b = absurd cc
       by (Some v) None a b = absurd cc
       by (Some v) (Some r) a b = refl

@@ -1,35 +1,23 @@
 -- What is found is the first rule that matches, or none exactly where no rule matches.
-use Rattle.std.proofs.Common.{◌≡◌, true, false, Option, Some, None, refl, ap}
+use Rattle.std.proofs.Common.{◌≡◌, true, false, Option, Some, None, refl}
 use Rattle.std.specs.Prelude.{IsSome, IsNone, IfSome, ◌↔◌}
 use Rattle.std.specs.Option.{option_map, option_map_or}
 use Rattle.ff_headers.specs.Frames.{HeaderBytes}
 use Rattle.ff_headers.specs.Objects.{FlowObjects, IsById}
 use Rattle.ff_headers.specs.Places.{RuleEntry, IsMatching, IsFirst, first_rule, action_of}
 use Rattle.ff_headers.proofs.PlaceLemmas.{first_rule_is_first, first_rule_is_found}
-use Rattle.matcher.specs.Candidates.{candidate_of}
+use Rattle.matcher.specs.Candidates.{candidate_of, found_with}
 use Rattle.matcher.specs.Findings.{found_in, found_rule, found_none, IsFirstUnder}
 use Rattle.matcher.specs.declared.found.Found.{Found}
 use Rattle.matcher.specs.declared.scan.Candidate.{Candidate}
 
--- a candidate as what is found
-abbrev pub found_from : Candidate → Found
-found_from first = record { action = first.action; rule = Some first.place.2 }
+with_rule : (objects : FlowObjects) (rule : Option RuleEntry) → found_with (option_map (candidate_of objects) rule) ≡ option_map_or found_rule rule found_none
+with_rule objects None = refl
+with_rule objects (Some entry) = refl
 
-some_found : (objects : FlowObjects) (first : Candidate) (rule : Option RuleEntry) → Some first ≡ option_map (candidate_of objects) rule → found_from first ≡ option_map_or found_rule rule found_none
-some_found objects first None is = absurd cc
-some_found objects first (Some entry) is = let same : first ≡ candidate_of objects entry = cc in ap found_from same
-
-none_found : (objects : FlowObjects) (rule : Option RuleEntry) → None ≡ option_map (candidate_of objects) rule → found_none ≡ option_map_or found_rule rule found_none
-none_found objects None is = refl
-none_found objects (Some entry) is = absurd cc
-
-pub is_found : (objects : FlowObjects) (headers : HeaderBytes) (first : Candidate) → Some first ≡ option_map (candidate_of objects) (first_rule objects headers) → found_from first ≡ found_in objects headers
+pub is_found : (objects : FlowObjects) (headers : HeaderBytes) (first : Option Candidate) → first ≡ option_map (candidate_of objects) (first_rule objects headers) → found_with first ≡ found_in objects headers
 unfolding found_in
-is_found objects headers first is = some_found objects first (first_rule objects headers) is
-
-pub none_is_found : (objects : FlowObjects) (headers : HeaderBytes) → None ≡ option_map (candidate_of objects) (first_rule objects headers) → found_none ≡ found_in objects headers
-unfolding found_in
-none_is_found objects headers is = none_found objects (first_rule objects headers) is
+is_found objects headers first is = rw is (with_rule objects (first_rule objects headers))
 
 -- what `found_in` says of the rules
 pub record Finds (objects : FlowObjects) (headers : HeaderBytes) (found : Found) : Type 0 where

@@ -21,7 +21,7 @@ use Rattle.ff_headers.specs.declared.limits.Limits.{Limits}
 use Rattle.ff_headers.proofs.EntryLemmas.{entry_from_held, held_from_entry, object_under-put, object_under-without, fails_at_held}
 use Rattle.matcher.specs.Keys.{Shape, shape_of}
 use Rattle.matcher.specs.Rows.{Kept, with_kept, IsNew, AreUsed, AreHeld, held_shapes, kept_with, kept_by, kept_under, moved, moved_so_far, AreRows}
-use Rattle.matcher.specs.Indexes.{IsIndex}
+use Rattle.matcher.specs.Indexes.{IsRowIndex}
 use Rattle.matcher.specs.declared.rows.Row.{Row}
 use Rattle.matcher.specs.declared.index.RowIndex.{RowIndex}
 use Rattle.ff_headers.proofs.ChangeLemmas.{backed_from_test}
@@ -171,7 +171,7 @@ classifier_put limits objects id q selectors well sound =
     let off = other_classifier limits objects id q selectors rule well sound is in
     same_kept_by rule q (object_under objects.groups rule.group) _ _ _ refl (sym (object_under-put objects.classifiers id selectors rule.classifier ∙ ap (λ b. cond b (Some selectors) (object_under objects.classifiers rule.classifier)) off)))
 
-pub same_index : (limits : Limits) (kept other : ℕ → Option Kept) (index : RowIndex) → ((q : ℕ) → kept q ≡ other q) → IsIndex limits kept index → IsIndex limits other index
+pub same_index : (limits : Limits) (kept other : ℕ → Option Kept) (index : RowIndex) → ((q : ℕ) → kept q ≡ other q) → IsRowIndex limits kept index → IsRowIndex limits other index
 same_index limits kept other index same was = record {
   rows = same_kept kept other index.shapes.items index.rows.items same was.rows;
   rows_room = was.rows_room;
@@ -282,17 +282,13 @@ module _ (objects : FlowObjects) (group priority : ℕ) where
     by false h = kept_are_held objects q one h
 
 -- a sound change is made
-pub index_stepped : (limits : Limits) (objects : FlowObjects) (change : Change) (index : RowIndex) → is_sound limits objects change ≡ true → IsIndex limits (kept_under (with_change_made objects change)) index → IsIndex limits (kept_under (step limits objects change)) index
+pub index_stepped : (limits : Limits) (objects : FlowObjects) (change : Change) (index : RowIndex) → is_sound limits objects change ≡ true → IsRowIndex limits (kept_under (with_change_made objects change)) index → IsRowIndex limits (kept_under (step limits objects change)) index
 index_stepped limits objects change index sound was =
     same_index limits _ _ index (λ q. ap (λ (o : FlowObjects). kept_under o q) (stepped limits objects change sound)) was
-
-pub index_unchanged : (limits : Limits) (objects : FlowObjects) (change : Change) (index : RowIndex) → is_sound limits objects change ≡ false → IsIndex limits (kept_under objects) index → IsIndex limits (kept_under (step limits objects change)) index
-index_unchanged limits objects change index unsound was =
-    same_index limits _ _ index (λ q. ap (λ (o : FlowObjects). kept_under o q) (unchanged limits objects change unsound)) was
 
 close_unsound : (limits : Limits) (objects : FlowObjects) → is_sound limits objects Close ≡ true → ⊥
 unfolding is_sound
 close_unsound limits objects h = cc
 
-pub index_closed : (limits : Limits) (objects : FlowObjects) (index : RowIndex) → is_sound limits objects Close ≡ true → IsIndex limits (kept_under (step limits objects Close)) index
+pub index_closed : (limits : Limits) (objects : FlowObjects) (index : RowIndex) → is_sound limits objects Close ≡ true → IsRowIndex limits (kept_under (step limits objects Close)) index
 index_closed limits objects index sound = absurd (close_unsound limits objects sound)

@@ -8,7 +8,7 @@ use Rattle.ff_headers.specs.SelectorParts.{SelectorParts}
 use Rattle.ff_headers.specs.Frames.{HeaderBytes, header_at}
 use Rattle.ff_headers.specs.Matching.{masked, key_size}
 use Rattle.ff_headers.proofs.MatchingLemmas.{masked_at, length-masked}
-use Rattle.matcher.specs.Keys.{masked_key, frame_key, joined}
+use Rattle.matcher.specs.Keys.{masked_key, frame_key, joined_with}
 
 -- all bytes are masked
 pub masked_all : (mask before after : List ℕ) (n : ℕ) → length before ≡ length mask → length after ≡ length before → length before ≤ n → ((k : ℕ) → k < n → get_or after k 0 ≡ bit_and (get_or before k 0) (get_or mask k 0)) → after ≡ masked mask before
@@ -39,21 +39,21 @@ masked_key_done list bits key is = rw is (append-nil bits)
 
 -- ---- a frame's key
 
-joined_twice : (a b : List ℕ) (rest : Option (List ℕ)) → joined a (joined b rest) ≡ joined (a ++ b) rest
+joined_twice : (a b : List ℕ) (rest : Option (List ℕ)) → joined_with a (joined_with b rest) ≡ joined_with (a ++ b) rest
 joined_twice a b None = refl
 joined_twice a b (Some c) = ap Some (sym (append_assoc a b c))
 
-pub frame_key_more : (list rest : List SelectorParts) (s : SelectorParts) (bits value : List ℕ) (headers : HeaderBytes) → list ≡ s ∷ rest → header_at headers s.kind ≡ Some value → joined bits (frame_key list headers) ≡ joined (bits ++ masked s.mask value) (frame_key rest headers)
+pub frame_key_more : (list rest : List SelectorParts) (s : SelectorParts) (bits value : List ℕ) (headers : HeaderBytes) → list ≡ s ∷ rest → header_at headers s.kind ≡ Some value → joined_with bits (frame_key list headers) ≡ joined_with (bits ++ masked s.mask value) (frame_key rest headers)
 frame_key_more list rest s bits value headers is at =
-    rw is (ap (λ (o : Option (List ℕ)). joined bits (option_map_or (λ v. joined (masked s.mask v) (frame_key rest headers)) o None)) at ∙ joined_twice bits (masked s.mask value) (frame_key rest headers))
+    rw is (ap (λ (o : Option (List ℕ)). joined_with bits (option_map_or (λ v. joined_with (masked s.mask v) (frame_key rest headers)) o None)) at ∙ joined_twice bits (masked s.mask value) (frame_key rest headers))
 
-pub frame_key_none : (list rest : List SelectorParts) (s : SelectorParts) (bits : List ℕ) (headers : HeaderBytes) → list ≡ s ∷ rest → header_at headers s.kind ≡ None → joined bits (frame_key list headers) ≡ None
+pub frame_key_none : (list rest : List SelectorParts) (s : SelectorParts) (bits : List ℕ) (headers : HeaderBytes) → list ≡ s ∷ rest → header_at headers s.kind ≡ None → joined_with bits (frame_key list headers) ≡ None
 frame_key_none list rest s bits headers is at =
-    rw is (ap (λ (o : Option (List ℕ)). joined bits (option_map_or (λ v. joined (masked s.mask v) (frame_key rest headers)) o None)) at)
+    rw is (ap (λ (o : Option (List ℕ)). joined_with bits (option_map_or (λ v. joined_with (masked s.mask v) (frame_key rest headers)) o None)) at)
 
-pub frame_key_done : (list : List SelectorParts) (bits : List ℕ) (headers : HeaderBytes) → list ≡ [] → joined bits (frame_key list headers) ≡ Some bits
+pub frame_key_done : (list : List SelectorParts) (bits : List ℕ) (headers : HeaderBytes) → list ≡ [] → joined_with bits (frame_key list headers) ≡ Some bits
 frame_key_done list bits headers is = rw is (ap Some (append-nil bits))
 
-pub joined_nothing : (o : Option (List ℕ)) → o ≡ joined [] o
+pub joined_nothing : (o : Option (List ℕ)) → o ≡ joined_with [] o
 joined_nothing None = refl
 joined_nothing (Some c) = refl

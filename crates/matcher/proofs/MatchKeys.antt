@@ -15,7 +15,7 @@ use Rattle.ff_headers.specs.Frames.{HeaderBytes, header_at}
 use Rattle.ff_headers.specs.Matching.{masked, fits, matches, key_size}
 use Rattle.ff_headers.specs.declared.kind.Kind.{Kind}
 use Rattle.ff_headers.proofs.MatchingLemmas.{matches-cons, matches-nil}
-use Rattle.matcher.specs.Keys.{shape_of, part_of, masked_key, frame_key, joined}
+use Rattle.matcher.specs.Keys.{shape_of, kind_and_mask, masked_key, frame_key, joined_with}
 use Rattle.matcher.proofs.KeyLemmas.{key_size-cons}
 
 -- bytes of one size are masked to bits of one size
@@ -35,7 +35,7 @@ back_same : (a b c d : List ℕ) → length a ≡ length c → a ++ b ≡ c ++ d
 back_same a b c d long e =
     sym (drop-append_seam a b) ∙ ap (λ (n : ℕ). drop n (a ++ b)) long ∙ ap (drop (length c)) e ∙ drop-append_seam c d
 
-key_some : (front : List ℕ) (o : Option (List ℕ)) (key : List ℕ) → joined front o ≡ Some key → (rest : List ℕ) × (o ≡ Some rest) × (front ++ rest ≡ key)
+key_some : (front : List ℕ) (o : Option (List ℕ)) (key : List ℕ) → joined_with front o ≡ Some key → (rest : List ℕ) × (o ≡ Some rest) × (front ++ rest ≡ key)
 key_some front None key e = absurd cc
 key_some front (Some rest) key e = (rest, refl, cc)
 
@@ -63,13 +63,13 @@ module _ (headers : HeaderBytes) where
       let both = and_parts _ _ (sym (matches-cons s ss key headers) ∙ m) in
       let first = fits_parts s (take (kind_size s.kind) key) both.0 in
       let rest = key_from_match ss (drop (kind_size s.kind) key) both.1 in
-      ap (λ (o : Option (List ℕ)). option_map_or (λ value. joined (masked s.mask value) (frame_key ss headers)) o None) first.1 ∙ ap (λ (o : Option (List ℕ)). joined (masked s.mask first.0) o) rest ∙ ap (λ (front : List ℕ). Some (front ++ masked_key ss (drop (kind_size s.kind) key))) first.2
+      ap (λ (o : Option (List ℕ)). option_map_or (λ value. joined_with (masked s.mask value) (frame_key ss headers)) o None) first.1 ∙ ap (λ (o : Option (List ℕ)). joined_with (masked s.mask first.0) o) rest ∙ ap (λ (front : List ℕ). Some (front ++ masked_key ss (drop (kind_size s.kind) key))) first.2
 
   -- and the same keys make a match
   pub match_from_key : (ss : List SelectorParts) (key : List ℕ) → HaveSizes headers → length key ≡ key_size ss → frame_key ss headers ≡ Some (masked_key ss key) → matches ss key headers ≡ true
   match_from_key [] key sizes long e = matches-nil key headers
   match_from_key (s ∷ ss) key sizes long e = by_header (header_at headers s.kind) refl (sizes s.kind) e (match_from_key ss (drop (kind_size s.kind) key) sizes) where
-    by_header : (o : Option (List ℕ)) → header_at headers s.kind ≡ o → IfSome o (λ value. length value ≡ kind_size s.kind) → option_map_or (λ value. joined (masked s.mask value) (frame_key ss headers)) o None ≡ Some (masked s.mask (take (kind_size s.kind) key) ++ masked_key ss (drop (kind_size s.kind) key)) → (length (drop (kind_size s.kind) key) ≡ key_size ss → frame_key ss headers ≡ Some (masked_key ss (drop (kind_size s.kind) key)) → matches ss (drop (kind_size s.kind) key) headers ≡ true) → matches (s ∷ ss) key headers ≡ true
+    by_header : (o : Option (List ℕ)) → header_at headers s.kind ≡ o → IfSome o (λ value. length value ≡ kind_size s.kind) → option_map_or (λ value. joined_with (masked s.mask value) (frame_key ss headers)) o None ≡ Some (masked s.mask (take (kind_size s.kind) key) ++ masked_key ss (drop (kind_size s.kind) key)) → (length (drop (kind_size s.kind) key) ≡ key_size ss → frame_key ss headers ≡ Some (masked_key ss (drop (kind_size s.kind) key)) → matches ss (drop (kind_size s.kind) key) headers ≡ true) → matches (s ∷ ss) key headers ≡ true
     by_header None at size h deeper = absurd cc
     by_header (Some value) at size h deeper =
         let part = take (kind_size s.kind) key in
@@ -90,7 +90,7 @@ module _ (headers : HeaderBytes) where
   frame_key_by_shape [] (t ∷ ts) e = absurd cc
   frame_key_by_shape (s ∷ ss) [] e = absurd cc
   frame_key_by_shape (s ∷ ss) (t ∷ ts) e =
-      let first : part_of s ≡ part_of t = cc in
+      let first : kind_and_mask s ≡ kind_and_mask t = cc in
       let kinds : s.kind ≡ t.kind = ap (λ (p : Kind × List ℕ). p.0) first in
       let masks : s.mask ≡ t.mask = ap (λ (p : Kind × List ℕ). p.1) first in
       let rest : shape_of ss ≡ shape_of ts = cc in

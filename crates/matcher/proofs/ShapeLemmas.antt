@@ -8,7 +8,7 @@ use Rattle.std.proofs.lemmas.List.{get_or_default, get_or-map, same_lists, get_o
 use Rattle.std.proofs.lemmas.List.Folds.{list_any_at}
 use Rattle.ff_headers.specs.SelectorParts.{SelectorParts}
 use Rattle.ff_headers.specs.declared.kind.Kind.{Kind}
-use Rattle.matcher.specs.Keys.{Shape, shape_of, part_of}
+use Rattle.matcher.specs.Keys.{Shape, shape_of, kind_and_mask}
 use Rattle.matcher.specs.Rows.{Kept, selectors_at, IsNew, AreRows}
 use Rattle.matcher.specs.declared.rows.Row.{Row}
 
@@ -18,21 +18,21 @@ pub length-shape : (list : List SelectorParts) → length (shape_of list) ≡ le
 length-shape [] = refl
 length-shape (s ∷ ss) = ap suc (length-shape ss)
 
-pub shape_at : (list : List SelectorParts) (i : ℕ) (s : SelectorParts) → i < length list → s ≡ get_or list i s → get_or (shape_of list) i (part_of s) ≡ (part_of s)
+pub shape_at : (list : List SelectorParts) (i : ℕ) (s : SelectorParts) → i < length list → s ≡ get_or list i s → get_or (shape_of list) i (kind_and_mask s) ≡ (kind_and_mask s)
 shape_at list i s within is =
-    get_or-map part_of list i s (part_of s) within ∙ ap part_of (sym is)
+    get_or-map kind_and_mask list i s (kind_and_mask s) within ∙ ap kind_and_mask (sym is)
 
 -- a part of a shape, whatever is given past its end
-part_at : (list : List SelectorParts) (i : ℕ) (s : SelectorParts) (d : Kind × List ℕ) → i < length list → s ≡ get_or list i s → get_or (shape_of list) i d ≡ (part_of s)
+part_at : (list : List SelectorParts) (i : ℕ) (s : SelectorParts) (d : Kind × List ℕ) → i < length list → s ≡ get_or list i s → get_or (shape_of list) i d ≡ (kind_and_mask s)
 part_at list i s d within is =
     let long = length-shape list in
-    get_or_default (shape_of list) i d (part_of s) (omega arith) ∙ shape_at list i s within is
+    get_or_default (shape_of list) i d (kind_and_mask s) (omega arith) ∙ shape_at list i s within is
 
-pub same_part_at : (a b : List SelectorParts) (i : ℕ) (s t : SelectorParts) → i < length a → length a ≡ length b → s ≡ get_or a i s → t ≡ get_or b i t → shape_of a ≡ shape_of b → (part_of s) ≡ (part_of t)
+pub same_part_at : (a b : List SelectorParts) (i : ℕ) (s t : SelectorParts) → i < length a → length a ≡ length b → s ≡ get_or a i s → t ≡ get_or b i t → shape_of a ≡ shape_of b → (kind_and_mask s) ≡ (kind_and_mask t)
 same_part_at a b i s t within long is it same =
-    sym (part_at a i s (part_of s) within is) ∙ ap (λ (shape : Shape). get_or shape i (part_of s)) same ∙ part_at b i t (part_of s) (omega arith) it
+    sym (part_at a i s (kind_and_mask s) within is) ∙ ap (λ (shape : Shape). get_or shape i (kind_and_mask s)) same ∙ part_at b i t (kind_and_mask s) (omega arith) it
 
-pub one_part_more : (a b : List SelectorParts) (i : ℕ) (s t : SelectorParts) → i < length a → length a ≡ length b → s ≡ get_or a i s → t ≡ get_or b i t → (part_of s) ≡ (part_of t) → ((k : ℕ) (d : Kind × List ℕ) → k < i → get_or (shape_of a) k d ≡ get_or (shape_of b) k d) → (k : ℕ) (d : Kind × List ℕ) → k < i + 1 → get_or (shape_of a) k d ≡ get_or (shape_of b) k d
+pub one_part_more : (a b : List SelectorParts) (i : ℕ) (s t : SelectorParts) → i < length a → length a ≡ length b → s ≡ get_or a i s → t ≡ get_or b i t → (kind_and_mask s) ≡ (kind_and_mask t) → ((k : ℕ) (d : Kind × List ℕ) → k < i → get_or (shape_of a) k d ≡ get_or (shape_of b) k d) → (k : ℕ) (d : Kind × List ℕ) → k < i + 1 → get_or (shape_of a) k d ≡ get_or (shape_of b) k d
 one_part_more a b i s t within long is it here below k d lt = elim (cases_lt k i) [
   | inl before ↦ below k d before
   | inr behind ↦

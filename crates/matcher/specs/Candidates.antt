@@ -4,6 +4,8 @@ use Rattle.std.specs.Ordering.{is_lt}
 use Rattle.ff_headers.specs.Frames.{HeaderBytes}
 use Rattle.ff_headers.specs.Objects.{FlowObjects}
 use Rattle.ff_headers.specs.Places.{RuleEntry, place_of, place_cmp, rule_matches, action_with}
+use Rattle.matcher.specs.Findings.{found_none}
+use Rattle.matcher.specs.declared.found.Found.{Found}
 use Rattle.matcher.specs.declared.scan.Candidate.{Candidate}
 
 -- a rule's place, and what it does
@@ -27,3 +29,8 @@ abbrev pub earlier : Option Candidate → Option Candidate → Option Candidate
 earlier first None = first
 earlier None (Some next) = Some next
 earlier (Some first) (Some next) = Some (if comes_before next first then next else first)
+
+-- what a search gives where this is the first rule that matches
+abbrev pub found_with : Option Candidate → Found
+found_with None = found_none
+found_with (Some first) = record { action = first.action; rule = Some first.place.2 }

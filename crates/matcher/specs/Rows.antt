@@ -106,8 +106,8 @@ pub record IsRow (shapes : List (List SelectorParts)) (row : Row) (kept : Kept) 
   pub candidate : row.candidate ≡ kept.candidate
 
 -- a row is what is kept under its id
-abbrev pub IsSound : (ℕ → Option Kept) → List (List SelectorParts) → Row → Type 0
-IsSound kept shapes row = (one : Kept) × (kept (id_of row) ≡ Some one) × IsRow shapes row one
+abbrev pub IsKeptRow : (ℕ → Option Kept) → List (List SelectorParts) → Row → Type 0
+IsKeptRow kept shapes row = (one : Kept) × (kept (id_of row) ≡ Some one) × IsRow shapes row one
 
 -- each row is before those after it
 abbrev pub AreRising : List Row → Type 0
@@ -115,15 +115,15 @@ AreRising rows =
     (i j : ℕ) (d : Row) → i < j → j < length rows → row_cmp (slice_index_or rows i d) (slice_index_or rows j d) ≡ Less
 
 -- no two of the numbers have one shape
-abbrev pub AreApart : List (List SelectorParts) → Type 0
-AreApart shapes =
+abbrev pub AreDistinctShapes : List (List SelectorParts) → Type 0
+AreDistinctShapes shapes =
     (i j : ℕ) → i < j → j < length shapes → shape_of (selectors_at shapes i) ≢ shape_of (selectors_at shapes j)
 
 -- the rows are all that is kept, in order, and each shape has one number
 pub record AreRows (kept : ℕ → Option Kept) (shapes : List (List SelectorParts)) (rows : List Row) : Type 0 where
-  pub apart : AreApart shapes
+  pub apart : AreDistinctShapes shapes
   pub rising : AreRising rows
-  pub sound : (row : Row) → Contains rows row → IsSound kept shapes row
+  pub sound : (row : Row) → Contains rows row → IsKeptRow kept shapes row
   pub complete : (id : ℕ) (one : Kept) → kept id ≡ Some one → (row : Row) × Contains rows row × (id_of row ≡ id)
 
 -- no number has the selectors' shape

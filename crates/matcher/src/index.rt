@@ -8,9 +8,9 @@ ghost use Rattle.ff_headers.specs.declared.change.Change.TheVariants as changes;
 ghost use Rattle.ff_headers.specs.Places.{RuleEntry};
 ghost use Rattle.matcher.specs.Keys.{masked_key};
 ghost use Rattle.matcher.specs.declared.rows.Row.{Row};
-ghost use Rattle.matcher.specs.Rows.{Kept, id_of, with_kept, candidate_with, kept_with, kept_by, kept_under, moved, AreHeld, AreRows, AreRising, AreApart, IsNew, AreUsed};
+ghost use Rattle.matcher.specs.Rows.{Kept, id_of, with_kept, candidate_with, kept_with, kept_by, kept_under, moved, AreHeld, AreRows, AreRising, AreDistinctShapes, IsNew, AreUsed};
 ghost use Rattle.matcher.specs.Searches.{FitsRow, FitsBelow, IsFirstAmong, IsShapeCost, IsTotalCost};
-ghost use Rattle.matcher.specs.Indexes.{IsIndex};
+ghost use Rattle.matcher.specs.Indexes.{IsRowIndex};
 
 use crate::keys::{frame_key, masked_key};
 use crate::rows::{Row, drop_row, place_for, set_row};
@@ -32,7 +32,7 @@ pub(crate) struct RowIndex {
 impl RowIndex {
     /// No row, and room for as many rules and shapes as the limits allow.
     pub(crate) fn new(alloc: Global, limits: &Limits) -> Result<RowIndex, AllocError>
-        ensures { IfOk result (IsIndex limits.now (kept_under no_objects)) }
+        ensures { IfOk result (IsRowIndex limits.now (kept_under no_objects)) }
     {
         Ok(RowIndex {
             shapes: Vec::with_capacity(alloc, limits.classifiers as usize)?,
@@ -47,7 +47,7 @@ impl RowIndex {
         steps: &mut Steps<L>,
     ) -> Option<Candidate>
         requires rising { AreRising self.now.rows.items }
-        requires apart { AreApart self.now.shapes.items }
+        requires apart { AreDistinctShapes self.now.shapes.items }
         ensures first { IsFirstAmong self.now.rows.items
             (FitsBelow (length self.now.shapes.items) self.now.shapes.items headers.now) result }
         ensures cost { IsTotalCost self.now.shapes.items self.now.rows.items headers.now (length self.now.shapes.items)
@@ -79,15 +79,14 @@ impl RowIndex {
         }
     }
 
-    /// Makes the rows those of what a change leaves of a store's objects.
-    pub(crate) fn apply(&mut self, store: &Store, change: &Change)
-        requires { IsIndex store.now.limits (kept_under store.now.objects) self.old }
-        ensures { IsIndex store.now.limits (kept_under (step store.now.limits store.now.objects change.now)) self.new }
+    /// Makes the rows those of what a sound change leaves of a store's objects.
+    pub(crate) fn apply_sound(&mut self, store: &Store, change: &Change)
+        requires sound { is_sound store.now.limits store.now.objects change.now ≡ true }
+        requires rows { IsRowIndex store.now.limits (kept_under store.now.objects) self.old }
+        ensures { let after = step store.now.limits store.now.objects change.now in
+            IsRowIndex store.now.limits (kept_under after) self.new }
     {
         let _well_formed = store.limits();
-        if !store.is_sound(change) {
-            return;
-        }
         match change {
             Change::PutRule(id, rule) => self.put_rule(store, *id, rule),
             Change::DropRule(id) => self.drop_rule(store, *id),
@@ -103,8 +102,8 @@ impl RowIndex {
     fn put_rule(&mut self, store: &Store, id: u32, rule: &RuleObj)
         requires well_formed { IsWellFormed store.now.limits store.now.objects }
         requires sound { is_sound store.now.limits store.now.objects (changes.PutRule id rule.now) ≡ true }
-        requires rows { IsIndex store.now.limits (kept_under store.now.objects) self.old }
-        ensures { IsIndex store.now.limits
+        requires rows { IsRowIndex store.now.limits (kept_under store.now.objects) self.old }
+        ensures { IsRowIndex store.now.limits
             (kept_under (with_change_made store.now.objects (changes.PutRule id rule.now))) self.new }
     {
         let group_priority = store.group_priority(rule.group()).unwrap_or(0);
@@ -114,8 +113,8 @@ impl RowIndex {
     /// A drop of a rule.
     fn drop_rule(&mut self, store: &Store, id: u32)
         requires { IsWellFormed store.now.limits store.now.objects }
-        ensures { (kept : ℕ → Option Kept) → IsIndex store.now.limits kept self.old
-            → IsIndex store.now.limits (with_kept kept id None) self.new }
+        ensures { (kept : ℕ → Option Kept) → IsRowIndex store.now.limits kept self.old
+            → IsRowIndex store.now.limits (with_kept kept id None) self.new }
     {
         let likely = self.likely_place(store, id).unwrap_or(0);
         drop_row(&mut self.rows, id, likely);
@@ -124,8 +123,8 @@ impl RowIndex {
     /// A group's rules take another priority.
     fn move_group(&mut self, store: &Store, group: u32, priority: u16)
         requires well_formed { IsWellFormed store.now.limits store.now.objects }
-        requires rows { IsIndex store.now.limits (kept_under store.now.objects) self.old }
-        ensures { IsIndex store.now.limits
+        requires rows { IsRowIndex store.now.limits (kept_under store.now.objects) self.old }
+        ensures { IsRowIndex store.now.limits
             (kept_under (with_change_made store.now.objects (changes.PutGroup group priority))) self.new }
     {
         for at in 0..store.rule_count() {
@@ -136,11 +135,11 @@ impl RowIndex {
     /// The rule that is so many rules behind the one of least id takes another priority, where it is of the group.
     fn move_rule(&mut self, store: &Store, at: usize, group: u32, priority: u16)
         requires well_formed { IsWellFormed store.now.limits store.now.objects }
-        requires held { (kept : ℕ → Option Kept) × IsIndex store.now.limits kept self.old
+        requires held { (kept : ℕ → Option Kept) × IsRowIndex store.now.limits kept self.old
             × AreHeld store.now.objects kept }
         ensures { (entry : RuleEntry) (kept : ℕ → Option Kept) → slice_get store.now.objects.rules at ≡ Some entry
-            → IsIndex store.now.limits kept self.old
-            → IsIndex store.now.limits (moved store.now.objects group priority entry kept) self.new }
+            → IsRowIndex store.now.limits kept self.old
+            → IsRowIndex store.now.limits (moved store.now.objects group priority entry kept) self.new }
     {
         if let Some((id, rule)) = store.rule_at(at) {
             if rule.group() == group {
@@ -154,10 +153,10 @@ impl RowIndex {
         requires well_formed { IsWellFormed store.now.limits store.now.objects }
         requires backed { IsBacked store.now.objects rule.now }
         requires fits { has_room store.now.objects.rules id store.now.limits.rules ≡ true }
-        requires held { (kept : ℕ → Option Kept) × IsIndex store.now.limits kept self.old
+        requires held { (kept : ℕ → Option Kept) × IsRowIndex store.now.limits kept self.old
             × AreHeld store.now.objects kept }
-        ensures { (kept : ℕ → Option Kept) → IsIndex store.now.limits kept self.old
-            → IsIndex store.now.limits
+        ensures { (kept : ℕ → Option Kept) → IsRowIndex store.now.limits kept self.old
+            → IsRowIndex store.now.limits
             (with_kept kept id (kept_by store.now.objects group_priority (id, rule.now))) self.new }
     {
         if let Some(selectors) = store.selectors(rule.classifier()) {

@@ -2,7 +2,7 @@
 
 ghost use Rattle.std.specs.Prelude.{◌≡◌, ℕ, ◌<◌, ◌==◌, IsTrue, ◌↔◌, true, false, Option, IfSome, IfNone, length, vec_len, vec_capacity};
 ghost use Rattle.std.specs.List.{list_any};
-ghost use Rattle.matcher.specs.Keys.{shape_of, part_of};
+ghost use Rattle.matcher.specs.Keys.{shape_of, kind_and_mask};
 ghost use Rattle.matcher.specs.Rows.{Kept, selectors_at, IsNew, AreUsed, AreRows};
 
 use crate::rows::Row;
@@ -83,7 +83,7 @@ fn has_shape(a: &Selectors, b: &Selectors) -> bool
 
 /// Whether the kinds and masks of two selectors are the same.
 fn has_part(a: &Selector, b: &Selector) -> bool
-    ensures { IsTrue result ↔ (part_of a.now ≡ part_of b.now) }
+    ensures { IsTrue result ↔ (kind_and_mask a.now ≡ kind_and_mask b.now) }
 {
     a.kind() == b.kind() && a.mask() == b.mask()
 }

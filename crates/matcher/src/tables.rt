@@ -7,11 +7,11 @@ ghost use Rattle.matcher.specs.Tables.{no_changes, applied};
 ghost use Rattle.matcher.specs.Findings.{found_in, IsFirstUnder};
 ghost use Rattle.matcher.specs.Comparisons.{IsBounded};
 
-use crate::found::Found;
+use crate::found::{Found, found_with};
 use crate::index::RowIndex;
 use crate::keys::have_sizes;
 use crate::scan::first_candidate;
-use ff_headers::{Action, Change, Headers, Limits, Steps};
+use ff_headers::{Change, Headers, Limits, Steps};
 use ff_store::Store;
 use std::alloc::{AllocError, Global};
 use std::marker::Model;
@@ -28,13 +28,13 @@ pub struct Tables {
 impl Model for Tables {
     ghost use Rattle.matcher.specs.Tables.{TableState, tables_with};
     ghost use Rattle.matcher.specs.Rows.{kept_under};
-    ghost use Rattle.matcher.specs.Indexes.{IsIndex};
+    ghost use Rattle.matcher.specs.Indexes.{IsRowIndex};
 
     ghost Value = { TableState };
 
     ghost view = { λ t. tables_with t.store.limits t.store.objects t.count };
 
-    ghost invariant = { λ t. IsIndex t.store.limits (kept_under t.store.objects) t.index };
+    ghost invariant = { λ t. IsRowIndex t.store.limits (kept_under t.store.objects) t.index };
 }
 
 impl Tables {
@@ -68,9 +68,18 @@ impl Tables {
     pub fn apply(&mut self, change: Change)
         ensures { self.new ≡ applied self.old change }
     {
+        self.apply_copy(&change);
+    }
+
+    /// Like [`Tables::apply`], with a change that stays the caller's.
+    pub fn apply_copy(&mut self, change: &Change)
+        ensures { self.new ≡ applied self.old change.now }
+    {
         self.count = change.count_after(self.count);
-        self.index.apply(&self.store, &change);
-        self.store.apply(change);
+        if self.store.is_sound(change) {
+            self.index.apply_sound(&self.store, change);
+            self.store.apply_sound(change);
+        }
     }
 
     /// The first rule that matches a frame with these headers, and what happens to the frame. A step is a comparison of
@@ -85,16 +94,7 @@ impl Tables {
     {
         let _well_formed = self.store.limits();
         have_sizes(headers);
-        match self.index.first(headers, steps) {
-            Some(first) => Found {
-                action: first.action,
-                rule: Some(first.place.2),
-            },
-            None => Found {
-                action: Action::Default,
-                rule: None,
-            },
-        }
+        found_with(self.index.first(headers, steps))
     }
 
     /// What [`Tables::find`] gives, by a walk over all rules: the plain program of its definition, which tests compare
@@ -103,15 +103,6 @@ impl Tables {
         ensures { result ≡ found_in self.now.objects headers.now }
     {
         let _well_formed = self.store.limits();
-        match first_candidate(&self.store, headers) {
-            Some(first) => Found {
-                action: first.action,
-                rule: Some(first.place.2),
-            },
-            None => Found {
-                action: Action::Default,
-                rule: None,
-            },
-        }
+        found_with(first_candidate(&self.store, headers))
     }
 }

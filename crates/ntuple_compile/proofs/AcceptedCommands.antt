@@ -4,7 +4,7 @@ use Rattle.std.specs.Prelude.{IfSome, filter_map}
 use Rattle.std.specs.List.{AllByRecursion, enumerate_from}
 use Rattle.std.specs.Int.{div_ceil}
 use Rattle.std.specs.Option.{option_map_or}
-use Rattle.vnff_base.specs.Bytes.{IsBytes}
+use Rattle.byte_numbers.specs.Bytes.{IsBytes}
 use Rattle.ff_headers.specs.Frames.{HeaderBytes, headers_of}
 use Rattle.ff_headers.specs.Objects.{FlowObjects, no_objects}
 use Rattle.ff_headers.specs.Places.{action_of, first_rule}

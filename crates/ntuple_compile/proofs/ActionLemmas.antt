@@ -1,7 +1,7 @@
 -- The objects that stand for specs do with each frame what the specs do.
 use Rattle.std.proofs.Common.{◌≡◌, ℕ, ◌+◌, ◌<◌, List, [], ◌∷◌}
 use Rattle.std.specs.List.{AllByRecursion}
-use Rattle.vnff_base.specs.Bytes.{IsBytes}
+use Rattle.byte_numbers.specs.Bytes.{IsBytes}
 use Rattle.ff_headers.specs.Frames.{HeaderBytes, headers_of}
 use Rattle.ff_headers.specs.Places.{action_of}
 use Rattle.ff_headers.specs.declared.limits.Limits.{Limits}

@@ -8,7 +8,7 @@ use Rattle.std.proofs.Math.Nat.{mod-eq_of_lt}
 use Rattle.std.proofs.Math.Seq.{take-append_seam, drop-append_seam}
 use Rattle.std.proofs.lemmas.Nat.{and_le_r}
 use Rattle.ff_headers.specs.Fields.{number, value_at, fields_of}
-use Rattle.vnff_base.specs.Bytes.{IsBytes}
+use Rattle.byte_numbers.specs.Bytes.{IsBytes}
 use Rattle.ff_headers.specs.Frames.{HeaderBytes, header_at, headers_of}
 use Rattle.ff_headers.specs.Kinds.{kind_size}
 use Rattle.ff_headers.specs.Matching.{masked, fits, matches}
@@ -19,15 +19,15 @@ use Rattle.ff_headers.proofs.FieldLemmas.{AreBytes}
 use Rattle.ff_headers.proofs.MatchingLemmas.{matches-cons}
 use Rattle.ntuple_text.specs.SpecTexts.{form_range}
 use Rattle.ntuple_text.specs.Spellable.{AreSpelled, IsSpelledIn, IsSpellable}
-use Rattle.ntuple_text.specs.declared.key.Form.{Form}
-use Rattle.ntuple_text.specs.declared.key.Form.TheVariants.{Mac, Bits8, Bits16}
-use Rattle.ntuple_text.specs.declared.key.Form.TheVariants as form
+use Rattle.ntuple_text.specs.declared.key.FieldForm.{FieldForm}
+use Rattle.ntuple_text.specs.declared.key.FieldForm.TheVariants.{Mac, Bits8, Bits16}
+use Rattle.ntuple_text.specs.declared.key.FieldForm.TheVariants as form
 use Rattle.ntuple_text.specs.declared.spec.Flow.{Flow}
 use Rattle.ntuple_text.specs.declared.spec.Flow.TheVariants.{Ether, Ip4, Tcp4, Udp4, Ip6, Tcp6, Udp6}
 use Rattle.ntuple_text.specs.declared.spec.Part.{Part}
 use Rattle.ntuple_text.specs.declared.spec.Spec.{Spec}
 use Rattle.ntuple_compile.specs.SpecFits.{agrees, fields_agree, header_agrees, kinds_of, named_fields, spec_fits}
-use Rattle.ntuple_compile.specs.Selected.{IsPartOf, mask_field, key_field, given_for, joined, mask_for, key_part, selector_of_mask, selectors_of, key_for}
+use Rattle.ntuple_compile.specs.Selected.{IsPartOf, mask_field, key_field, given_for, joined_number, mask_for, key_part, selector_of_mask, selectors_of, key_for}
 use Rattle.ntuple_compile.proofs.HeaderLemmas.{AreHeaders, headers_are_sound}
 use Rattle.ntuple_compile.proofs.JoinedNumbers.{EachFits, sized, bits_of_kind, joined_below, and_joined, joined_same, header_is_joined, values_fit}
 use Rattle.ntuple_compile.proofs.MaskedBytes.{length-bytes, bytes_are_bytes, number-bytes, length-masked, masked_are_bytes, number-masked, same_bytes}
@@ -82,17 +82,17 @@ named_agree spec Udp header = refl
 -- ---- one header
 
 -- the number of a header with given fields
-pub header_number : (kind : Kind) (value : Field → ℕ) → EachFits value (fields_of kind) → number (bytes_high_first (kind_size kind) (joined (sized value (fields_of kind)))) ≡ joined (sized value (fields_of kind))
+pub header_number : (kind : Kind) (value : Field → ℕ) → EachFits value (fields_of kind) → number (bytes_high_first (kind_size kind) (joined_number (sized value (fields_of kind)))) ≡ joined_number (sized value (fields_of kind))
 header_number kind value fit =
     let below = joined_below value (fields_of kind) fit in
-    let fits : joined (sized value (fields_of kind)) < 2 ^ (8 * kind_size kind) = subst (λ (n : ℕ). joined (sized value (fields_of kind)) < 2 ^ n) (bits_of_kind kind) below in
-    number-bytes (kind_size kind) (joined (sized value (fields_of kind))) ∙ mod-eq_of_lt fits
+    let fits : joined_number (sized value (fields_of kind)) < 2 ^ (8 * kind_size kind) = subst (λ (n : ℕ). joined_number (sized value (fields_of kind)) < 2 ^ n) (bits_of_kind kind) below in
+    number-bytes (kind_size kind) (joined_number (sized value (fields_of kind))) ∙ mod-eq_of_lt fits
 
-mask_number : (spec : Spec) (kind : Kind) → EachIsPart (given spec kind) (fields_of kind) → number (mask_for spec kind) ≡ joined (sized (λ f. mask_field f.bits (given spec kind f)) (fields_of kind))
+mask_number : (spec : Spec) (kind : Kind) → EachIsPart (given spec kind) (fields_of kind) → number (mask_for spec kind) ≡ joined_number (sized (λ f. mask_field f.bits (given spec kind f)) (fields_of kind))
 unfolding mask_for
 mask_number spec kind parts = header_number kind (λ f. mask_field f.bits (given spec kind f)) (masks_fit (given spec kind) (fields_of kind) parts)
 
-key_number : (spec : Spec) (kind : Kind) → EachIsPart (given spec kind) (fields_of kind) → number (key_part spec kind) ≡ joined (sized (λ f. key_field f.bits (given spec kind f)) (fields_of kind))
+key_number : (spec : Spec) (kind : Kind) → EachIsPart (given spec kind) (fields_of kind) → number (key_part spec kind) ≡ joined_number (sized (λ f. key_field f.bits (given spec kind f)) (fields_of kind))
 unfolding key_part
 key_number spec kind parts = header_number kind (λ f. key_field f.bits (given spec kind f)) (keys_fit (given spec kind) (fields_of kind) parts)
 
@@ -130,9 +130,9 @@ bytes_agree spec kind header parts size bytes =
     let xs = values_fit header fields in
     let ms = masks_fit g fields parts in
     let ks = keys_fit g fields parts in
-    let of_header : number (masked mask header) ≡ joined (sized (λ f. bit_and (x f) (m f)) fields) = number-masked mask header lm mb bytes ∙ ap (λ n. bit_and n (number mask)) (header_is_joined kind header size bytes) ∙ ap (λ n. bit_and (joined (sized x fields)) n) (mask_number spec kind parts) ∙ and_joined x m fields xs ms in
-    let of_key : number (masked mask key) ≡ joined (sized (λ f. bit_and (k f) (m f)) fields) = number-masked mask key lk mb kb ∙ ap (λ n. bit_and n (number mask)) (key_number spec kind parts) ∙ ap (λ n. bit_and (joined (sized k fields)) n) (mask_number spec kind parts) ∙ and_joined k m fields ks ms in
-    same_bytes (masked mask header) (masked mask key) as_long (masked_are_bytes mask header mb) (masked_are_bytes mask key mb) ∙ ap (λ n. eqb n (number (masked mask key))) of_header ∙ ap (λ n. eqb (joined (sized (λ f. bit_and (x f) (m f)) fields)) n) of_key ∙ joined_same (λ f. bit_and (x f) (m f)) (λ f. bit_and (k f) (m f)) fields (both_fit x m fields ms) (both_fit k m fields ms) ∙ each_agrees g x fields parts xs ∙ named_agree spec kind header
+    let of_header : number (masked mask header) ≡ joined_number (sized (λ f. bit_and (x f) (m f)) fields) = number-masked mask header lm mb bytes ∙ ap (λ n. bit_and n (number mask)) (header_is_joined kind header size bytes) ∙ ap (λ n. bit_and (joined_number (sized x fields)) n) (mask_number spec kind parts) ∙ and_joined x m fields xs ms in
+    let of_key : number (masked mask key) ≡ joined_number (sized (λ f. bit_and (k f) (m f)) fields) = number-masked mask key lk mb kb ∙ ap (λ n. bit_and n (number mask)) (key_number spec kind parts) ∙ ap (λ n. bit_and (joined_number (sized k fields)) n) (mask_number spec kind parts) ∙ and_joined k m fields ks ms in
+    same_bytes (masked mask header) (masked mask key) as_long (masked_are_bytes mask header mb) (masked_are_bytes mask key mb) ∙ ap (λ n. eqb n (number (masked mask key))) of_header ∙ ap (λ n. eqb (joined_number (sized (λ f. bit_and (x f) (m f)) fields)) n) of_key ∙ joined_same (λ f. bit_and (x f) (m f)) (λ f. bit_and (k f) (m f)) fields (both_fit x m fields ms) (both_fit k m fields ms) ∙ each_agrees g x fields parts xs ∙ named_agree spec kind header
 
 fits_where_agreed : (spec : Spec) (kind : Kind) (headers : HeaderBytes) → AreHeaders headers → EachIsPart (given spec kind) (fields_of kind) → fits (selector_of_mask kind (mask_for spec kind)) (key_part spec kind) headers ≡ header_agrees spec headers kind
 unfolding fits
@@ -164,7 +164,7 @@ list_matches spec headers are (kind ∷ kinds) parts =
 -- ---- a spec that lines can spell
 
 -- a part in a form has the form's bits
-in_form : (f : Form) (bits : ℕ) (part : Option Part) → form_range f ≡ 2 ^ bits → IsSpelledIn (Some f) part → IsPartOf bits part
+in_form : (f : FieldForm) (bits : ℕ) (part : Option Part) → form_range f ≡ 2 ^ bits → IsSpelledIn (Some f) part → IsPartOf bits part
 in_form f bits None range spelled = tt
 in_form f bits (Some part) range spelled = (rw (sym range) spelled.0, rw (sym range) spelled.1)
 

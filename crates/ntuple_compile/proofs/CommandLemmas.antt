@@ -7,7 +7,7 @@ use Rattle.std.specs.Int.{div_ceil}
 use Rattle.admin_wire.specs.declared.command.Command.{Command}
 use Rattle.ff_headers.specs.declared.limits.Limits.{Limits}
 use Rattle.ntuple_text.specs.declared.spec.Spec.{Spec}
-use Rattle.ntuple_compile.specs.Compiled.{Shape, create_classifier, create_group, create_rule, creates_of, objects_of, rules_per_group, shapes_of, spec_rule}
+use Rattle.ntuple_compile.specs.Compiled.{SelectorList, create_classifier, create_group, create_rule, creates_of, objects_of, rules_per_group, shapes_of, spec_rule}
 use Rattle.ntuple_compile.specs.Selected.{selectors_of}
 
 enumerate_from-push : {X : Type 0} (from : ℕ) (xs : List X) (x : X) → enumerate_from from (xs ++ x ∷ []) ≡ enumerate_from from xs ++ (from + length xs, x) ∷ []
@@ -43,7 +43,7 @@ classifiers_more firsts id d inside =
     let inside' : id < length (map selectors_of firsts) = omega (arith, inside, length-map firsts selectors_of) in
     numbered_more create_classifier (map selectors_of firsts) id [] inside' ∙ ap (λ shape. map create_classifier (enumerate_from 0 (take id (map selectors_of firsts))) ++ create_classifier (id, shape) ∷ []) (get_or-map selectors_of firsts id d [] inside)
 
-pub rules_more : (size : ℕ) (shapes : List Shape) (specs : List Spec) (id : ℕ) (d : Spec) → id < length specs → map create_rule (map (λ e. (e.0, spec_rule size shapes e.0 e.1)) (enumerate_from 0 (take (id + 1) specs))) ≡ map create_rule (map (λ e. (e.0, spec_rule size shapes e.0 e.1)) (enumerate_from 0 (take id specs))) ++ create_rule (id, spec_rule size shapes id (get_or specs id d)) ∷ []
+pub rules_more : (size : ℕ) (shapes : List SelectorList) (specs : List Spec) (id : ℕ) (d : Spec) → id < length specs → map create_rule (map (λ e. (e.0, spec_rule size shapes e.0 e.1)) (enumerate_from 0 (take (id + 1) specs))) ≡ map create_rule (map (λ e. (e.0, spec_rule size shapes e.0 e.1)) (enumerate_from 0 (take id specs))) ++ create_rule (id, spec_rule size shapes id (get_or specs id d)) ∷ []
 rules_more size shapes specs id d inside =
     let numbered = numbered_more (λ e. (e.0, spec_rule size shapes e.0 e.1)) specs id d inside in
     ap (map create_rule) numbered ∙ map-append create_rule (map (λ e. (e.0, spec_rule size shapes e.0 e.1)) (enumerate_from 0 (take id specs))) ((id, spec_rule size shapes id (get_or specs id d)) ∷ [])

@@ -11,7 +11,7 @@ use Rattle.ff_headers.specs.Shapes.{shape_fault}
 use Rattle.ff_headers.specs.declared.kind.Kind.TheVariants.{Eth, Ipv4, Ipv6, Tcp}
 use Rattle.ff_headers.specs.declared.rule.Action.TheVariants as action
 use Rattle.byte_numbers.specs.Numbers.{le16_at, le32_at, le64_at}
-use Rattle.admin_wire.specs.Headers.{header_of, opcode_of}
+use Rattle.admin_wire.specs.Headers.{command_header, opcode_of}
 use Rattle.admin_wire.specs.Layouts.{command_bytes}
 use Rattle.admin_wire.specs.Lists.{whole_entry, entries_of, selector_of, raw_list, list_of}
 use Rattle.admin_wire.specs.Objects.{head_of, group_of, classifier_of, raw_key, rule_of, object_of, head_and_object}
@@ -201,18 +201,18 @@ abbrev arp_sent : List SentCommand
 arp_sent = map (λ c. (command_bytes c, 8)) (creates_of (objects_of (device 2 4 8 8).limits (arp ∷ [])))
 
 arp_is_sent : AreSent (creates_of (objects_of (device 2 4 8 8).limits (arp ∷ []))) arp_sent
-unfolding arp creates_of objects_of selectors_of mask_for key_for key_part le16_at le32_at le64_at shape_fault is_allowed is_sound with_change_made step whole_entry entries_of selector_of raw_list list_of head_of group_of classifier_of raw_key rule_of object_of head_and_object header_of opcode_of data_of command_of answer_of verdict_of whole_reply
+unfolding arp creates_of objects_of selectors_of mask_for key_for key_part le16_at le32_at le64_at shape_fault is_allowed is_sound with_change_made step whole_entry entries_of selector_of raw_list list_of head_of group_of classifier_of raw_key rule_of object_of head_and_object command_header opcode_of data_of command_of answer_of verdict_of whole_reply
 arp_is_sent = ((refl, omega arith), ((refl, omega arith), ((refl, omega arith), tt)))
 
 arp_is_obeyed : AreObeyed (start_state (device 2 4 8 8) Ready) arp_sent
-unfolding arp creates_of objects_of selectors_of mask_for key_for key_part le16_at le32_at le64_at shape_fault is_allowed is_sound with_change_made step whole_entry entries_of selector_of raw_list list_of head_of group_of classifier_of raw_key rule_of object_of head_and_object header_of opcode_of data_of command_of answer_of verdict_of whole_reply
+unfolding arp creates_of objects_of selectors_of mask_for key_for key_part le16_at le32_at le64_at shape_fault is_allowed is_sound with_change_made step whole_entry entries_of selector_of raw_list list_of head_of group_of classifier_of raw_key rule_of object_of head_and_object command_header opcode_of data_of command_of answer_of verdict_of whole_reply
 arp_is_obeyed = (refl, (refl, (refl, tt)))
 
 arp_acts : action_of (state_after (start_state (device 2 4 8 8) Ready) arp_sent).objects (headers_of arp_frame) ≡ action.Queue 3
-unfolding arp creates_of objects_of selectors_of mask_for key_for key_part le16_at le32_at le64_at shape_fault is_allowed is_sound with_change_made step whole_entry entries_of selector_of raw_list list_of head_of group_of classifier_of raw_key rule_of object_of head_and_object header_of opcode_of data_of command_of answer_of verdict_of whole_reply state_after action_of first_rule rule_matches matches fits headers_of has_ipv4 carries eth_field ip_field ip_end names_ip
+unfolding arp creates_of objects_of selectors_of mask_for key_for key_part le16_at le32_at le64_at shape_fault is_allowed is_sound with_change_made step whole_entry entries_of selector_of raw_list list_of head_of group_of classifier_of raw_key rule_of object_of head_and_object command_header opcode_of data_of command_of answer_of verdict_of whole_reply state_after action_of first_rule rule_matches matches fits headers_of has_ipv4 carries eth_field ip_field ip_end names_ip
 arp_acts = refl
 
 -- a device without room for a classifier doesn't obey the second
 too_many_are_refused : AreObeyed (start_state (device 2 0 8 8) Ready) arp_sent → ⊥
-unfolding arp creates_of objects_of selectors_of mask_for key_for key_part le16_at le32_at le64_at shape_fault is_allowed is_sound with_change_made step whole_entry entries_of selector_of raw_list list_of head_of group_of classifier_of raw_key rule_of object_of head_and_object header_of opcode_of data_of command_of answer_of verdict_of whole_reply
+unfolding arp creates_of objects_of selectors_of mask_for key_for key_part le16_at le32_at le64_at shape_fault is_allowed is_sound with_change_made step whole_entry entries_of selector_of raw_list list_of head_of group_of classifier_of raw_key rule_of object_of head_and_object command_header opcode_of data_of command_of answer_of verdict_of whole_reply
 too_many_are_refused obeyed = let second = obeyed.1.0 in absurd cc

@@ -67,5 +67,5 @@ groups_put caps done from (suc count) below lower long room =
     let one = group_put caps done from below lower (omega (arith, long, room)) in
     let longer : length (done ++ last) ≡ from + 1 = omega (arith, length-append done last, long) in
     let rest = groups_put caps (done ++ last) (from + 1) count (below_next done from from below) (priorities_next done from lower) longer (omega (arith, room)) in
-    let joined : (done ++ last) ++ groups_from (from + 1) count ≡ done ++ groups_from from (suc count) = append_assoc done last (groups_from (from + 1) count) in
-    (with_groups (done ++ last), one, subst (λ (groups : List (ℕ × ℕ)). Reaches caps (with_groups (done ++ last)) (map create_group (groups_from (from + 1) count)) (with_groups groups)) joined rest)
+    let joined_number : (done ++ last) ++ groups_from (from + 1) count ≡ done ++ groups_from from (suc count) = append_assoc done last (groups_from (from + 1) count) in
+    (with_groups (done ++ last), one, subst (λ (groups : List (ℕ × ℕ)). Reaches caps (with_groups (done ++ last)) (map create_group (groups_from (from + 1) count)) (with_groups groups)) joined_number rest)

@@ -29,7 +29,7 @@ use Rattle.ntuple_text.specs.Spellable.{IsActionOf}
 use Rattle.ntuple_text.specs.declared.spec.Spec.{Spec}
 use Rattle.ntuple_text.specs.declared.spec.TableDo.{TableDo}
 use Rattle.ntuple_text.specs.declared.spec.TableDo.TheVariants.{Drop, Queue}
-use Rattle.ntuple_compile.specs.Compiled.{Shape, action_byte, action_of_spec, create_head, create_rule, shape_number, spec_rule, virtqueue_of}
+use Rattle.ntuple_compile.specs.Compiled.{SelectorList, action_byte, action_of_spec, create_head, create_rule, shape_number, spec_rule, virtqueue_of}
 use Rattle.ntuple_compile.specs.Selected.{key_for}
 use Rattle.ntuple_compile.proofs.KeyLemmas.{key_sized}
 use Rattle.ntuple_compile.proofs.LastEntries.{AreBelow, below_next, not_held, put_last}
@@ -39,7 +39,7 @@ use Rattle.ntuple_compile.proofs.RuleOrder.{group_is_held, rules_from}
 use Rattle.ntuple_compile.proofs.ShapeNumbers.{HasClassifier}
 
 -- groups, classifiers and rules
-abbrev pub with_rules : List (ℕ × ℕ) → List (ℕ × Shape) → List RuleEntry → FlowObjects
+abbrev pub with_rules : List (ℕ × ℕ) → List (ℕ × SelectorList) → List RuleEntry → FlowObjects
 with_rules groups classifiers rules = record { groups = groups; classifiers = classifiers; rules = rules }
 
 -- ---- the action
@@ -109,7 +109,7 @@ group_has_room size from limit rules some small spread =
 
 -- ---- the creates
 
-module _ (caps : CapsParts) (count size : ℕ) (shapes : List Shape) (some : 0 < size) (priorities : size ≤ caps.limits.last_priority + 1) (fit : size ≤ caps.limits.per_group) where
+module _ (caps : CapsParts) (count size : ℕ) (shapes : List SelectorList) (some : 0 < size) (priorities : size ≤ caps.limits.last_priority + 1) (fit : size ≤ caps.limits.per_group) where
   abbrev holding : List RuleEntry → FlowObjects
   holding rules = with_rules (groups_from 0 count) (enumerate_from 0 shapes) rules
 
@@ -127,9 +127,9 @@ module _ (caps : CapsParts) (count size : ℕ) (shapes : List Shape) (some : 0 <
   content_is_sound done id spec spread grouped action held = record {
     key_good = refl;
     group_held = ap (λ (o : Option ℕ). not (is_some o)) (group_is_held 0 count (id / size) (omega arith) (omega (arith, grouped)));
-    classifier_held = ap (λ (o : Option Shape). not (is_some o)) held;
+    classifier_held = ap (λ (o : Option SelectorList). not (is_some o)) held;
     priority_within = le-ltb caps.limits.last_priority (id % size) (omega (arith, priorities, some));
-    key_fits = ap (λ (o : Option Shape). not (length (key_for spec) == option_map_or key_size o 0)) held ∙ ap not (eq-eqb _ _ (key_sized spec));
+    key_fits = ap (λ (o : Option SelectorList). not (length (key_for spec) == option_map_or key_size o 0)) held ∙ ap not (eq-eqb _ _ (key_sized spec));
     action_set = ap not (action_is_set caps spec.action);
     queue_right = queue_is_right caps.pairs spec.action action;
     room_in_group = lt-leb caps.limits.per_group _ (group_has_room size id caps.limits.per_group done some fit spread);
@@ -165,5 +165,5 @@ module _ (caps : CapsParts) (count size : ℕ) (shapes : List Shape) (some : 0 <
       let one = rule_put done from spec below (omega (arith, long, room)) spread (grouped from (omega arith)) actions.0 held.0 in
       let longer : length (done ++ last) ≡ from + 1 = omega (arith, length-append done last, long) in
       let rest = rules_put (done ++ last) (from + 1) specs (below_next done from (spec_rule size shapes from spec) below) longer (omega (arith, room)) (spread_next size from done entry refl spread) (λ k inside. grouped k (omega (arith, inside))) actions.1 held.1 in
-      let joined : (done ++ last) ++ rules_from size shapes (from + 1) specs ≡ done ++ rules_from size shapes from (spec ∷ specs) = append_assoc done last (rules_from size shapes (from + 1) specs) in
-      (holding (done ++ last), one, subst (λ (rules : List RuleEntry). Reaches caps (holding (done ++ last)) (map create_rule (rules_from size shapes (from + 1) specs)) (holding rules)) joined rest)
+      let joined_number : (done ++ last) ++ rules_from size shapes (from + 1) specs ≡ done ++ rules_from size shapes from (spec ∷ specs) = append_assoc done last (rules_from size shapes (from + 1) specs) in
+      (holding (done ++ last), one, subst (λ (rules : List RuleEntry). Reaches caps (holding (done ++ last)) (map create_rule (rules_from size shapes (from + 1) specs)) (holding rules)) joined_number rest)

@@ -8,7 +8,7 @@ use Rattle.ff_headers.specs.declared.kind.Kind.{Kind}
 use Rattle.admin_wire.specs.declared.command.Command.{Command}
 use Rattle.cap_table.specs.Caps.{CapsParts, is_supported}
 use Rattle.ntuple_text.specs.declared.spec.Spec.{Spec}
-use Rattle.ntuple_compile.specs.Compiled.{IsFaultOf, compile_fault, compiled_specs, count_faults, creates_of, first_fault, objects_of, shapes_of, specs_fault}
+use Rattle.ntuple_compile.specs.Compiled.{IsCompileFault, compile_fault, compiled_specs, count_faults, creates_of, first_fault, objects_of, shapes_of, specs_fault}
 use Rattle.ntuple_compile.specs.declared.error.CompileErr.{CompileErr}
 use Rattle.ntuple_compile.specs.declared.error.CompileErr.TheVariants.{Unsupported, Rules, Classifiers, Levels, PerGroup, Memory}
 
@@ -36,7 +36,7 @@ unfolding compiled_specs compile_fault
 nothing_wrong caps specs none is =
     ap (λ found. option_map_or (λ f. Err f) (first_fault (found ∷ count_faults caps.limits (length specs) (length (shapes_of specs)))) (Ok (creates_of (objects_of caps.limits specs)))) none ∙ ap (λ found. option_map_or (λ f. Err f) found (Ok (creates_of (objects_of caps.limits specs)))) is
 
-pub is_fault_of : (spelled : Result (List Command) CompileErr) (fault : CompileErr) → spelled ≡ Err fault → IsFaultOf spelled fault
+pub is_fault_of : (spelled : Result (List Command) CompileErr) (fault : CompileErr) → spelled ≡ Err fault → IsCompileFault spelled fault
 is_fault_of spelled (Unsupported loc kind) is = is
 is_fault_of spelled (Rules n) is = is
 is_fault_of spelled (Classifiers n) is = is

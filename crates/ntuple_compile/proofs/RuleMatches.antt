@@ -10,13 +10,13 @@ use Rattle.ff_headers.specs.Places.{rule_matches}
 use Rattle.ff_headers.proofs.EntryLemmas.{object_under-cons}
 use Rattle.ntuple_text.specs.Spellable.{IsSpellable}
 use Rattle.ntuple_text.specs.declared.spec.Spec.{Spec}
-use Rattle.ntuple_compile.specs.Compiled.{Shape, shape_number, spec_rule}
+use Rattle.ntuple_compile.specs.Compiled.{SelectorList, shape_number, spec_rule}
 use Rattle.ntuple_compile.specs.Selected.{key_for, selectors_of}
 use Rattle.ntuple_compile.specs.SpecFits.{spec_fits}
 use Rattle.ntuple_compile.proofs.Bridge.{matches_where_fits}
 use Rattle.ntuple_compile.proofs.HeaderLemmas.{AreHeaders}
 
-pub held_matches : (objects : FlowObjects) (headers : HeaderBytes) (size : ℕ) (shapes : List Shape) (i : ℕ) (spec : Spec) (pairs : ℕ) → IsSpellable pairs spec → AreHeaders headers → object_under objects.classifiers (shape_number shapes spec) ≡ Some (selectors_of spec) → rule_matches objects headers (spec_rule size shapes i spec) ≡ spec_fits spec headers
+pub held_matches : (objects : FlowObjects) (headers : HeaderBytes) (size : ℕ) (shapes : List SelectorList) (i : ℕ) (spec : Spec) (pairs : ℕ) → IsSpellable pairs spec → AreHeaders headers → object_under objects.classifiers (shape_number shapes spec) ≡ Some (selectors_of spec) → rule_matches objects headers (spec_rule size shapes i spec) ≡ spec_fits spec headers
 unfolding rule_matches
 held_matches objects headers size shapes i spec pairs spellable are held =
     ap (λ found. option_map_or (λ selectors. matches selectors (key_for spec) headers) found false) held ∙ matches_where_fits spec pairs headers spellable are

@@ -14,7 +14,7 @@ use Rattle.ff_headers.specs.Places.{RuleEntry, Place, place_of, place_cmp, is_be
 use Rattle.ff_headers.specs.declared.limits.Limits.{Limits}
 use Rattle.ff_headers.proofs.EntryLemmas.{object_under-cons}
 use Rattle.ntuple_text.specs.declared.spec.Spec.{Spec}
-use Rattle.ntuple_compile.specs.Compiled.{Shape, objects_of, rules_per_group, shapes_of, spec_rule}
+use Rattle.ntuple_compile.specs.Compiled.{SelectorList, objects_of, rules_per_group, shapes_of, spec_rule}
 use Rattle.ntuple_compile.proofs.EachElement.{each_kept}
 
 -- ---- the first of rules in order
@@ -67,10 +67,10 @@ later_place i j size some less =
       strict rises apart = ⊎_elim (λ same. absurd (apart same)) (λ order. ⊎_elim (λ under. absurd (omega (arith, under, rises))) (λ over. over) order) (cases_order (j / size) (i / size))
 
 -- the rules of specs, the first of which has this number
-abbrev pub rules_from : ℕ → List Shape → ℕ → List Spec → List RuleEntry
+abbrev pub rules_from : ℕ → List SelectorList → ℕ → List Spec → List RuleEntry
 rules_from size shapes from specs = map (λ e. (e.0, spec_rule size shapes e.0 e.1)) (enumerate_from from specs)
 
-module _ (objects : FlowObjects) (count size : ℕ) (shapes : List Shape) (groups : objects.groups ≡ map (λ g. (g, g)) (range_with_len 0 count)) (some : 0 < size) where
+module _ (objects : FlowObjects) (count size : ℕ) (shapes : List SelectorList) (groups : objects.groups ≡ map (λ g. (g, g)) (range_with_len 0 count)) (some : 0 < size) where
   place_is : (i : ℕ) (spec : Spec) → i / size < count → place_of objects (i, spec_rule size shapes i spec) ≡ (i / size, i % size, i)
   place_is i spec held =
       let found : object_under objects.groups (i / size) ≡ Some (i / size) = rw groups (group_is_held 0 count (i / size) (omega arith) (omega (arith, held))) in

@@ -19,7 +19,7 @@ use Rattle.ff_headers.specs.Shapes.{codes_of}
 use Rattle.ff_headers.specs.declared.kind.Kind.{Kind}
 use Rattle.ff_headers.specs.declared.kind.Kind.TheVariants.{Eth, Ipv4, Ipv6, Tcp, Udp}
 use Rattle.ntuple_text.specs.declared.spec.Spec.{Spec}
-use Rattle.ntuple_compile.specs.Compiled.{Shape, same_masks, same_shape, shape_number, shapes_of}
+use Rattle.ntuple_compile.specs.Compiled.{SelectorList, same_masks, same_shape, shape_number, shapes_of}
 use Rattle.ntuple_compile.specs.Selected.{mask_for, selector_of_mask, selectors_of}
 use Rattle.ntuple_compile.specs.ShapeBytes.{IsNumbered, number_under, shape_bytes, spec_bytes, with_use}
 use Rattle.ntuple_compile.specs.SpecFits.{kinds_of}
@@ -50,7 +50,7 @@ same_kind a b same =
     cc
 
 -- each mask has its header's size
-abbrev AreWhole : Shape → Type 0
+abbrev AreWhole : SelectorList → Type 0
 AreWhole [] = ⊤
 AreWhole (s ∷ shape) = IsWhole s × AreWhole shape
 
@@ -61,7 +61,7 @@ regrouped false true masks rest same = same
 regrouped false false masks rest same = refl
 
 -- shapes are the same exactly where their bytes are
-same_shape-bytes : (a b : Shape) → AreWhole a → AreWhole b → same_shape a b ≡ bytes_eq (shape_bytes a) (shape_bytes b)
+same_shape-bytes : (a b : SelectorList) → AreWhole a → AreWhole b → same_shape a b ≡ bytes_eq (shape_bytes a) (shape_bytes b)
 unfolding shape_bytes
 same_shape-bytes [] [] wa wb = refl
 same_shape-bytes [] (t ∷ b) wa wb = refl
@@ -101,7 +101,7 @@ differs spec other = not (bytes_eq (spec_bytes spec) (spec_bytes other))
 abbrev has : Spec → List Spec → Bool
 has spec firsts = list_any (λ first. bytes_eq (spec_bytes spec) (spec_bytes first)) firsts
 
-kept_of_map : (p : Shape → Bool) (specs : List Spec) → filter p (map selectors_of specs) ≡ map selectors_of (filter (λ spec. p (selectors_of spec)) specs)
+kept_of_map : (p : SelectorList → Bool) (specs : List Spec) → filter p (map selectors_of specs) ≡ map selectors_of (filter (λ spec. p (selectors_of spec)) specs)
 kept_of_map p [] = refl
 kept_of_map p (spec ∷ specs) = by_test (p (selectors_of spec)) (kept_of_map p specs) where
   by_test : (t : Bool) → filter p (map selectors_of specs) ≡ map selectors_of (filter (λ s. p (selectors_of s)) specs) → cond t (selectors_of spec ∷ filter p (map selectors_of specs)) (filter p (map selectors_of specs)) ≡ map selectors_of (cond t (spec ∷ filter (λ s. p (selectors_of s)) specs) (filter (λ s. p (selectors_of s)) specs))
@@ -113,7 +113,7 @@ pub first_shapes : (specs : List Spec) → map selectors_of (first_uses specs) �
 unfolding first_uses
 first_shapes [] = refl
 first_shapes (spec ∷ specs) =
-    let p : Shape → Bool = λ other. not (same_shape (selectors_of spec) other) in
+    let p : SelectorList → Bool = λ other. not (same_shape (selectors_of spec) other) in
     let alike = filter_agree (λ (other : Spec). p (selectors_of other)) (differs spec) (λ other. ap not (same_spec spec other)) (first_uses specs) in
     ap (λ rest. selectors_of spec ∷ rest) (ap (map selectors_of) (sym alike) ∙ sym (kept_of_map p (first_uses specs)) ∙ ap (filter p) (first_shapes specs))
 
@@ -177,7 +177,7 @@ number_of spec from (first ∷ firsts) = by_test (bytes_eq (spec_bytes spec) (sp
       let next : from + 1 + shape_number (map selectors_of firsts) spec ≡ from + (1 + shape_number (map selectors_of firsts) spec) = omega arith in
       rw is (ap (unwrap_or (position_from (λ f. bytes_eq (spec_bytes spec) (spec_bytes f)) (from + 1) firsts)) (sym end) ∙ rest ∙ next)
 
-pub number_is_few : (t : Shape → Bool) (shapes : List Shape) → position_or_len t shapes ≤ length shapes
+pub number_is_few : (t : SelectorList → Bool) (shapes : List SelectorList) → position_or_len t shapes ≤ length shapes
 number_is_few t [] = omega arith
 number_is_few t (shape ∷ shapes) = by_test (t shape) (number_is_few t shapes) where
   by_test : (b : Bool) → position_or_len t shapes ≤ length shapes → cond (not b) (1 + position_or_len t shapes) 0 ≤ suc (length shapes)
@@ -249,7 +249,7 @@ shapes_of_all specs firsts i past is =
 
 -- ---- one selector more
 
-shape_bytes_more : (shape : Shape) (i : ℕ) (s : SelectorParts) → i < length shape → s ≡ get_or shape i s → shape_bytes (take (i + 1) shape) ≡ (shape_bytes (take i shape) ++ kind_code s.kind ∷ []) ++ s.mask
+shape_bytes_more : (shape : SelectorList) (i : ℕ) (s : SelectorParts) → i < length shape → s ≡ get_or shape i s → shape_bytes (take (i + 1) shape) ≡ (shape_bytes (take i shape) ++ kind_code s.kind ∷ []) ++ s.mask
 unfolding shape_bytes
 shape_bytes_more shape i s inside is =
     ap shape_bytes (take_more shape i s inside ∙ ap (λ t. take i shape ++ t ∷ []) (sym is)) ∙ flat_map-append (λ t. kind_code t.kind ∷ t.mask) (take i shape) (s ∷ []) ∙ ap (λ t. shape_bytes (take i shape) ++ kind_code s.kind ∷ t) (append-nil s.mask) ∙ sym (append_assoc (shape_bytes (take i shape)) (kind_code s.kind ∷ []) s.mask)

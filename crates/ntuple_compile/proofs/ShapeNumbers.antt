@@ -13,7 +13,7 @@ use Rattle.ff_headers.specs.Shapes.{codes_of}
 use Rattle.ff_headers.specs.declared.kind.Kind.{Kind}
 use Rattle.ff_headers.specs.declared.kind.Kind.TheVariants.{Eth, Ipv4, Ipv6, Tcp, Udp}
 use Rattle.ntuple_text.specs.declared.spec.Spec.{Spec}
-use Rattle.ntuple_compile.specs.Compiled.{Shape, each_once, same_masks, same_shape, shape_number, shapes_of}
+use Rattle.ntuple_compile.specs.Compiled.{SelectorList, each_once, same_masks, same_shape, shape_number, shapes_of}
 use Rattle.ntuple_compile.specs.Selected.{flags_for, mask_for, selector_of_mask, selectors_of}
 use Rattle.ntuple_compile.specs.SpecFits.{kinds_of}
 use Rattle.ntuple_compile.proofs.EachElement.{each_kept, each_more}
@@ -22,7 +22,7 @@ use Rattle.ntuple_compile.proofs.RuleMatches.{numbered_is_held}
 -- ---- equal shapes
 
 -- the flags of each selector are those of its mask
-abbrev Flagged : Shape → Type 0
+abbrev Flagged : SelectorList → Type 0
 Flagged shape = AllByRecursion (λ (s : SelectorParts). s.flags ≡ flags_for s.kind s.mask) shape
 
 kind_coded : (kind : Kind) → kind_of_code (kind_code kind) ≡ Some kind
@@ -49,7 +49,7 @@ same_selector a b flagged also kind mask =
     ap (λ k. selector_with k a.flags a.mask) kind ∙ (ap (λ f. selector_with b.kind f a.mask) flags ∙ ap (selector_with b.kind b.flags) mask)
 
 -- what the codes and the masks of two lists say of their first selectors, and of the others
-first_same : (s t : SelectorParts) (ss ts : Shape) → same_shape (s ∷ ss) (t ∷ ts) ≡ true → (s.kind ≡ t.kind) × (s.mask ≡ t.mask) × (same_shape ss ts ≡ true)
+first_same : (s t : SelectorParts) (ss ts : SelectorList) → same_shape (s ∷ ss) (t ∷ ts) ≡ true → (s.kind ≡ t.kind) × (s.mask ≡ t.mask) × (same_shape ss ts ≡ true)
 first_same s t ss ts same =
     let both = and_parts (bytes_eq (codes_of (s ∷ ss)) (codes_of (t ∷ ts))) (same_masks (s ∷ ss) (t ∷ ts)) same in
     let codes : kind_code s.kind ∷ codes_of ss ≡ kind_code t.kind ∷ codes_of ts = same_bytes _ _ both.0 in
@@ -58,7 +58,7 @@ first_same s t ss ts same =
     (same_kind s.kind t.kind cc, same_bytes s.mask t.mask masks.0, and_from _ _ (ap (bytes_eq (codes_of ss)) (sym rest) ∙ equal_bytes (codes_of ss)) masks.1)
 
 -- two such lists with the same kinds and masks are equal
-same_is_equal : (a b : Shape) → Flagged a → Flagged b → same_shape a b ≡ true → a ≡ b
+same_is_equal : (a b : SelectorList) → Flagged a → Flagged b → same_shape a b ≡ true → a ≡ b
 same_is_equal [] [] flagged also same = refl
 same_is_equal [] (t ∷ ts) flagged also same = absurd cc
 same_is_equal (s ∷ ss) [] flagged also same = absurd cc
@@ -68,22 +68,22 @@ same_is_equal (s ∷ ss) (t ∷ ts) flagged also same =
     let rest = same_is_equal ss ts flagged.1 also.1 parts.2 in
     cc
 
-equal_masks : (a : Shape) → same_masks a a ≡ true
+equal_masks : (a : SelectorList) → same_masks a a ≡ true
 equal_masks [] = refl
 equal_masks (s ∷ ss) = and_from _ _ (equal_bytes s.mask) (equal_masks ss)
 
-equal_shape : (a : Shape) → same_shape a a ≡ true
+equal_shape : (a : SelectorList) → same_shape a a ≡ true
 equal_shape a = and_from _ _ (equal_bytes (codes_of a)) (equal_masks a)
 
 -- ---- a shape among others
 
 -- the shape is one of them
-abbrev Has : Shape → List Shape → Type 0
+abbrev Has : SelectorList → List SelectorList → Type 0
 Has shape [] = ⊥
 Has shape (one ∷ others) = (one ≡ shape) ⊎ Has shape others
 
 -- a filter keeps a shape that passes
-kept : (p : Shape → Bool) (shape : Shape) (shapes : List Shape) → p shape ≡ true → Has shape shapes → Has shape (filter p shapes)
+kept : (p : SelectorList → Bool) (shape : SelectorList) (shapes : List SelectorList) → p shape ≡ true → Has shape shapes → Has shape (filter p shapes)
 kept p shape [] passes has = absurd has
 kept p shape (one ∷ others) passes has = by_test (p one) refl has (kept p shape others passes) where
   by_test : (b : Bool) → p one ≡ b → Has shape (one ∷ others) → (Has shape others → Has shape (filter p others)) → Has shape (cond b (one ∷ filter p others) (filter p others))
@@ -93,7 +93,7 @@ kept p shape (one ∷ others) passes has = by_test (p one) refl has (kept p shap
   by_test false test (inr later) rest = rest later
 
 -- a shape of the list is among those that stand there once
-once_has : (shape : Shape) (shapes : List Shape) → Flagged shape → AllByRecursion Flagged shapes → Has shape shapes → Has shape (each_once shapes)
+once_has : (shape : SelectorList) (shapes : List SelectorList) → Flagged shape → AllByRecursion Flagged shapes → Has shape shapes → Has shape (each_once shapes)
 once_has shape [] mine flagged has = absurd has
 once_has shape (one ∷ others) mine flagged (inl is) = inl is
 once_has shape (one ∷ others) mine flagged (inr later) = by_test (same_shape one shape) refl (once_has shape others mine flagged.1 later) where
@@ -102,12 +102,12 @@ once_has shape (one ∷ others) mine flagged (inr later) = by_test (same_shape o
   by_test false apart rest = inr (kept (λ other. not (same_shape one other)) shape (each_once others) (ap not apart) rest)
 
 -- what holds of each of them holds of each of those
-pub once_all : (P : Shape → Type 0) (shapes : List Shape) → AllByRecursion P shapes → AllByRecursion P (each_once shapes)
+pub once_all : (P : SelectorList → Type 0) (shapes : List SelectorList) → AllByRecursion P shapes → AllByRecursion P (each_once shapes)
 once_all P [] all = tt
 once_all P (shape ∷ shapes) all = (all.0, each_kept P (λ other. not (same_shape shape other)) (each_once shapes) (once_all P shapes all.1))
 
 -- there is a place where it stands
-stands : (p : Shape → Bool) (shape : Shape) (shapes : List Shape) → p shape ≡ true → Has shape shapes → position_or_len p shapes < length shapes
+stands : (p : SelectorList → Bool) (shape : SelectorList) (shapes : List SelectorList) → p shape ≡ true → Has shape shapes → position_or_len p shapes < length shapes
 stands p shape [] passes has = absurd has
 stands p shape (one ∷ others) passes has = by_test (p one) refl has (stands p shape others passes) where
   by_test : (b : Bool) → p one ≡ b → Has shape (one ∷ others) → (Has shape others → position_or_len p others < length others) → cond (not b) (1 + position_or_len p others) 0 < suc (length others)
@@ -116,7 +116,7 @@ stands p shape (one ∷ others) passes has = by_test (p one) refl has (stands p 
   by_test false test (inr later) rest = omega (arith, rest later)
 
 -- its place is the first of one that is the same, and so of itself
-found : (shape : Shape) (shapes : List Shape) → Flagged shape → AllByRecursion Flagged shapes → Has shape shapes → object_under (enumerate_from 0 shapes) (position_or_len (same_shape shape) shapes) ≡ Some shape
+found : (shape : SelectorList) (shapes : List SelectorList) → Flagged shape → AllByRecursion Flagged shapes → Has shape shapes → object_under (enumerate_from 0 shapes) (position_or_len (same_shape shape) shapes) ≡ Some shape
 found shape shapes mine flagged has =
     let place = position_or_len (same_shape shape) shapes in
     let inside = stands (same_shape shape) shape shapes (equal_shape shape) has in
@@ -146,7 +146,7 @@ all_there (spec ∷ specs) =
     (inl refl, each_more (λ other. Has (selectors_of other) (map selectors_of specs)) (λ other. Has (selectors_of other) (map selectors_of (spec ∷ specs))) (λ other has. inr has) specs (all_there specs))
 
 -- the classifier of a spec is held under its number
-abbrev pub HasClassifier : List Shape → Spec → Type 0
+abbrev pub HasClassifier : List SelectorList → Spec → Type 0
 HasClassifier shapes spec = object_under (enumerate_from 0 shapes) (shape_number shapes spec) ≡ Some (selectors_of spec)
 
 pub classifiers_found : (specs : List Spec) → AllByRecursion (HasClassifier (shapes_of specs)) specs

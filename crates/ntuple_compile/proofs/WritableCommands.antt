@@ -15,7 +15,7 @@ use Rattle.ntuple_text.specs.declared.spec.Flow.{Flow}
 use Rattle.ntuple_text.specs.declared.spec.Flow.TheVariants.{Ether, Ip4, Tcp4, Udp4, Ip6, Tcp6, Udp6}
 use Rattle.ntuple_text.specs.declared.spec.Spec.{Spec}
 use Rattle.ntuple_compile.specs.Acceptance.{IsWritable}
-use Rattle.ntuple_compile.specs.Compiled.{Shape, compiled, create_classifier, create_group, create_rule, creates_of, objects_of, rules_per_group, shapes_of, spec_rule}
+use Rattle.ntuple_compile.specs.Compiled.{SelectorList, compiled, create_classifier, create_group, create_rule, creates_of, objects_of, rules_per_group, shapes_of, spec_rule}
 use Rattle.ntuple_compile.specs.Selected.{mask_for, selector_of_mask, selectors_of}
 use Rattle.ntuple_compile.specs.SpecFits.{kinds_of, specs_of}
 use Rattle.ntuple_compile.proofs.AcceptedCommands.{not_refused}
@@ -30,7 +30,7 @@ writable command has laid_out distinct = (has, omega (arith, command_fits comman
 -- ---- selectors
 
 -- a list of selectors has a layout: few of them, with masks of their headers' sizes and distinct types
-record IsLaidOutList (shape : Shape) : Type 0 where
+record IsLaidOutList (shape : SelectorList) : Type 0 where
   pub few : length shape ≤ 5
   pub whole : All IsWhole shape
   pub distinct : IsDistinct nat_eq (codes_of shape)
@@ -76,12 +76,12 @@ groups_writable : (groups : List (ℕ × ℕ)) → AllByRecursion IsWritable (ma
 groups_writable [] = tt
 groups_writable (group ∷ groups) = (writable (create_group group) refl refl tt, groups_writable groups)
 
-classifiers_writable : (from : ℕ) (shapes : List Shape) → AllByRecursion IsLaidOutList shapes → AllByRecursion IsWritable (map create_classifier (enumerate_from from shapes))
+classifiers_writable : (from : ℕ) (shapes : List SelectorList) → AllByRecursion IsLaidOutList shapes → AllByRecursion IsWritable (map create_classifier (enumerate_from from shapes))
 classifiers_writable from [] laid_out = tt
 classifiers_writable from (shape ∷ shapes) laid_out =
     (writable (create_classifier (from, shape)) (refl, tt) (refl, (laid_out.0.few, laid_out.0.whole)) laid_out.0.distinct, classifiers_writable (from + 1) shapes laid_out.1)
 
-rules_writable : (size : ℕ) (shapes : List Shape) (from : ℕ) (specs : List Spec) → AllByRecursion IsWritable (map create_rule (rules_from size shapes from specs))
+rules_writable : (size : ℕ) (shapes : List SelectorList) (from : ℕ) (specs : List Spec) → AllByRecursion IsWritable (map create_rule (rules_from size shapes from specs))
 rules_writable size shapes from [] = tt
 rules_writable size shapes from (spec ∷ specs) =
     (writable (create_rule (from, spec_rule size shapes from spec)) (refl, tt) (refl, key_short spec) tt, rules_writable size shapes (from + 1) specs)

@@ -2,7 +2,7 @@
 -- whatever bytes lay the commands out. This project's own.
 use Rattle.std.specs.Prelude.{⊤, ℕ, ◌≡◌, ◌≤◌, List, [], ◌∷◌, length, replicate}
 use Rattle.std.specs.List.{AllZip}
-use Rattle.vnff_base.specs.Bytes.{IsBytes}
+use Rattle.byte_numbers.specs.Bytes.{IsBytes}
 use Rattle.ff_headers.specs.Frames.{headers_of}
 use Rattle.ff_headers.specs.Places.{action_of}
 use Rattle.admin_wire.specs.declared.command.Command.{Command}

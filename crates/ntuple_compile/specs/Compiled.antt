@@ -35,28 +35,28 @@ use Rattle.ntuple_compile.specs.declared.error.CompileErr.TheVariants.{Unsupport
 -- ---- classifiers
 
 -- the selectors of a classifier, in order
-abbrev pub Shape : Type 0
-Shape = List SelectorParts
+abbrev pub SelectorList : Type 0
+SelectorList = List SelectorParts
 
 -- two lists of masks are the same
-abbrev pub same_masks : Shape → Shape → Bool
+abbrev pub same_masks : SelectorList → SelectorList → Bool
 same_masks a b = list_all (λ p. bytes_eq p.0.mask p.1.mask) (zip a b)
 
 -- two lists of selectors have the same kinds and masks
-abbrev pub same_shape : Shape → Shape → Bool
+abbrev pub same_shape : SelectorList → SelectorList → Bool
 same_shape a b = bytes_eq (codes_of a) (codes_of b) && same_masks a b
 
 -- the shapes, each once, in the order of their first use
-abbrev pub each_once : List Shape → List Shape
+abbrev pub each_once : List SelectorList → List SelectorList
 each_once [] = []
 each_once (shape ∷ shapes) = shape ∷ filter (λ other. not (same_shape shape other)) (each_once shapes)
 
 -- the classifiers that specs share, from number 0 up
-abbrev pub shapes_of : List Spec → List Shape
+abbrev pub shapes_of : List Spec → List SelectorList
 shapes_of specs = each_once (map selectors_of specs)
 
 -- the number of a spec's classifier
-abbrev pub shape_number : List Shape → Spec → ℕ
+abbrev pub shape_number : List SelectorList → Spec → ℕ
 shape_number shapes spec = position_or_len (same_shape (selectors_of spec)) shapes
 
 -- ---- groups and rules
@@ -77,7 +77,7 @@ virtqueue_of Drop = 0
 virtqueue_of (Queue queue) = 2 * queue
 
 -- the rule of the spec with number i: groups are filled one after another, so that an earlier spec has an earlier place
-abbrev pub spec_rule : ℕ → List Shape → ℕ → Spec → RuleParts
+abbrev pub spec_rule : ℕ → List SelectorList → ℕ → Spec → RuleParts
 spec_rule size shapes i spec =
     rule_with (i / size) (shape_number shapes spec) (i % size) (action_of_spec spec.action) (virtqueue_of spec.action)
     (key_for spec)
@@ -101,7 +101,7 @@ create_head type id = record { type_code = type; id = id; flags = 0 }
 abbrev pub create_group : ℕ × ℕ → Command
 create_group group = Create (create_head group_type group.0) (Group group.1)
 
-abbrev pub create_classifier : ℕ × Shape → Command
+abbrev pub create_classifier : ℕ × SelectorList → Command
 create_classifier classifier =
     Create (create_head classifier_type classifier.0) (Classifier (raw_list.Good (record { items = classifier.1 })))
 
@@ -180,6 +180,6 @@ abbrev pub compiled : TableMap → CapsParts → Result (List Command) CompileEr
 compiled table caps = compiled_specs caps (specs_of table)
 
 -- the error says what is wrong with the table, unless memory ran out
-abbrev pub IsFaultOf : Result (List Command) CompileErr → CompileErr → Type 0
-IsFaultOf spelled Memory = ⊤
-IsFaultOf spelled err = spelled ≡ Err err
+abbrev pub IsCompileFault : Result (List Command) CompileErr → CompileErr → Type 0
+IsCompileFault spelled Memory = ⊤
+IsCompileFault spelled err = spelled ≡ Err err

@@ -43,9 +43,9 @@ total_bits [] = 0
 total_bits (one ∷ rest) = one.0 + total_bits rest
 
 -- the number that they spell, one behind the other, the first the most significant
-abbrev pub joined : List Sized → ℕ
-joined [] = 0
-joined (one ∷ rest) = one.1 * 2 ^ total_bits rest + joined rest
+abbrev pub joined_number : List Sized → ℕ
+joined_number [] = 0
+joined_number (one ∷ rest) = one.1 * 2 ^ total_bits rest + joined_number rest
 
 -- what is given for a field: nothing where it isn't named
 abbrev pub given_for : List NamedField → Field → Option Part
@@ -59,7 +59,7 @@ AreGivenIn spec kind = All (λ f. IsPartOf f.bits (given_for (named_fields spec 
 abbrev pub header_with : (ℕ → Option Part → ℕ) → Spec → Kind → List ℕ
 header_with value spec kind =
     bytes_high_first (kind_size kind)
-    (joined (map (λ f. (f.bits, value f.bits (given_for (named_fields spec kind) f))) (fields_of kind)))
+    (joined_number (map (λ f. (f.bits, value f.bits (given_for (named_fields spec kind) f))) (fields_of kind)))
 
 -- the mask for a header
 unfoldable pub mask_for : Spec → Kind → List ℕ
@@ -96,6 +96,6 @@ AreGiven spec = All (AreGivenIn spec) (kinds_of spec.flow)
 unfoldable pub selectors_of : Spec → List SelectorParts
 selectors_of spec = map (λ kind. selector_of_mask kind (mask_for spec kind)) (kinds_of spec.flow)
 
--- its key: the selectors' parts, joined
+-- its key: the selectors' parts, joined_number
 unfoldable pub key_for : Spec → List ℕ
 key_for spec = flat_map (key_part spec) (kinds_of spec.flow)

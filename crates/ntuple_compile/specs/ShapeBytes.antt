@@ -7,11 +7,11 @@ use Rattle.std.specs.Ordering.{nat_cmp}
 use Rattle.arrayvec.specs.ArrayVec.{ArrayVec}
 use Rattle.ff_headers.specs.Kinds.{kind_code}
 use Rattle.ntuple_text.specs.declared.spec.Spec.{Spec}
-use Rattle.ntuple_compile.specs.Compiled.{Shape}
+use Rattle.ntuple_compile.specs.Compiled.{SelectorList}
 use Rattle.ntuple_compile.specs.Selected.{AreGiven, selectors_of}
 
--- the type byte and the mask of each selector, joined
-unfoldable pub shape_bytes : Shape → List ℕ
+-- the type byte and the mask of each selector, joined_number
+unfoldable pub shape_bytes : SelectorList → List ℕ
 shape_bytes shape = flat_map (λ s. kind_code s.kind ∷ s.mask) shape
 
 -- the bytes of a spec's shape

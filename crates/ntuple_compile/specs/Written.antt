@@ -3,7 +3,7 @@ use Rattle.std.specs.Prelude.{ℕ, ◌≡◌, ◌+◌, ◌*◌, ◌/◌, ◌%◌
 use Rattle.ff_headers.specs.Fields.{number}
 
 -- bytes, and the bits behind them, which are less than a byte, spell the number of so many bits
-pub record Spells (bits : ℕ) (n : ℕ) (bytes : List ℕ) (rest : ℕ) : Type 0 where
+pub record SpellsNumber (bits : ℕ) (n : ℕ) (bytes : List ℕ) (rest : ℕ) : Type 0 where
   pub spelled : number bytes * 2 ^ (bits % 8) + rest ≡ n
   pub size : length bytes ≡ bits / 8
   pub small : rest < 2 ^ (bits % 8)

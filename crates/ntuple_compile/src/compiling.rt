@@ -4,7 +4,7 @@ ghost use Rattle.std.specs.Prelude.{◌≡◌, ◌≤◌, Ok, IfOk, OnOk, All, M
 ghost use Rattle.ntuple_text.specs.Spellable.{IsTable};
 ghost use Rattle.ntuple_text.specs.TableMaps.{location_count};
 ghost use Rattle.ntuple_compile.specs.Acceptance.{ActAs, AreAccepted, IsWritable};
-ghost use Rattle.ntuple_compile.specs.Compiled.{IsFaultOf, compiled};
+ghost use Rattle.ntuple_compile.specs.Compiled.{IsCompileFault, compiled};
 ghost use Rattle.ntuple_compile.specs.Selected.{AreGiven};
 ghost use Rattle.ntuple_compile.specs.SpecFits.{specs_of};
 
@@ -26,7 +26,7 @@ use vnff_base::List;
 pub fn compile(alloc: Global, table: &Table, caps: &DeviceCaps) -> Result<List<Command>, CompileErr>
     requires { table.now.pairs ≡ caps.now.pairs }
     ensures value { MatchResult result (λ commands. compiled table.now caps.now ≡ Ok commands)
-        (IsFaultOf (compiled table.now caps.now)) }
+        (IsCompileFault (compiled table.now caps.now)) }
 
     // Each command has bytes, no more than this project's driver writes.
     ensures writable { IfOk result (All IsWritable) }

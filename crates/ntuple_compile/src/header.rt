@@ -3,7 +3,7 @@
 ghost use Rattle.std.specs.Prelude.{◌≡◌, ℕ, ◌+◌, ◌*◌, ◌/◌, ◌%◌, ◌^◌, ◌<◌, ◌≤◌, ◌++◌, length};
 ghost use Rattle.std.specs.Int.{bytes_high_first};
 ghost use Rattle.ff_headers.specs.Fields.{LiesWithin};
-ghost use Rattle.ntuple_compile.specs.Written.{Spells};
+ghost use Rattle.ntuple_compile.specs.Written.{SpellsNumber};
 
 use arrayvec::ArrayVec;
 use ff_headers::Field;
@@ -17,17 +17,17 @@ pub(crate) fn put_field(bytes: &mut HeaderBytes, rest: u128, field: &Field, valu
     requires next { length bytes.old.items ≡ field.now.first / 8 }
     requires rest { rest < 2 ^ (field.now.first % 8) }
     requires value { value < 2 ^ field.now.bits }
-    ensures { (n : ℕ) → Spells field.now.first n bytes.old.items rest
-        → Spells (field.now.first + field.now.bits) (n * 2 ^ field.now.bits + value) bytes.new.items result }
+    ensures { (n : ℕ) → SpellsNumber field.now.first n bytes.old.items rest
+        → SpellsNumber (field.now.first + field.now.bits) (n * 2 ^ field.now.bits + value) bytes.new.items result }
 {
     let bits = field.first % 8 + field.bits;
-    let all = joined(rest, field.bits, value);
+    let all = joined_number(rest, field.bits, value);
     put_number(bytes, all >> (bits % 8), bits / 8);
     all % (1 << (bits % 8))
 }
 
 /// A number and the number of so many bits that stands behind it.
-fn joined(number: u128, bits: usize, behind: u128) -> u128
+fn joined_number(number: u128, bits: usize, behind: u128) -> u128
     requires few { bits ≤ 128 }
     requires fits { number * 2 ^ bits + behind < 2 ^ 128 }
     ensures { result ≡ number * 2 ^ bits + behind }

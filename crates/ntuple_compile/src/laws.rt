@@ -1,7 +1,7 @@
 //! Laws of the definitions. Each call does nothing: its contract is the law.
 
 ghost use Rattle.std.specs.Prelude.{◌≡◌, ◌↔◌, ◌⊎◌, ℕ, List, Some, Ok, IsTrue, All};
-ghost use Rattle.vnff_base.specs.Bytes.{IsBytes};
+ghost use Rattle.byte_numbers.specs.Bytes.{IsBytes};
 ghost use Rattle.ff_headers.specs.Frames.{HeaderBytes, headers_of};
 ghost use Rattle.ff_headers.specs.Matching.{matches};
 ghost use Rattle.ff_headers.specs.declared.rule.Action.TheVariants.{Default};

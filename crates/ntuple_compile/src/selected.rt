@@ -10,7 +10,7 @@ ghost use Rattle.ntuple_compile.specs.Selected.{key_field, key_for, key_part, ma
 
 use crate::header::{HeaderBytes, put_field};
 use arrayvec::ArrayVec;
-use ff_headers::{Field, Key, Kind, Selector, fields_of};
+use ff_headers::{Field, Key, Kind, PARTIAL_MASK, Selector, fields_of};
 use ntuple_text::{Flow, Part, Spec};
 
 const ETHER: [Kind; 1] = [Kind::Eth];
@@ -26,9 +26,6 @@ const IP6: [Kind; 1] = [Kind::Ipv6];
 const TCP6: [Kind; 2] = [Kind::Ipv6, Kind::Tcp];
 
 const UDP6: [Kind; 2] = [Kind::Ipv6, Kind::Udp];
-
-/// The flag of a selector whose mask has a part of a field.
-const PARTIAL_MASK: u8 = 1;
 
 /// The headers that a flow names.
 pub(crate) fn kinds_of(flow: Flow) -> &'static [Kind]

@@ -1,7 +1,7 @@
 -- The fields of each flow: they are new, one after another, and with them nothing of a spec is missing.
 use Rattle.std.proofs.Common.{◌≡◌, ℕ, refl, Some, None, Option}
 use Rattle.ntuple_text.specs.Drafts.{draft_of}
-use Rattle.ntuple_text.specs.SpecTexts.{fields_of}
+use Rattle.ntuple_text.specs.SpecTexts.{flow_fields}
 use Rattle.ntuple_text.specs.Spellable.{AreSpelled, IsSpelledIn}
 use Rattle.ntuple_text.specs.TableLines.{spec_of_options}
 use Rattle.ntuple_text.specs.declared.draft.Draft.{Draft}
@@ -18,8 +18,8 @@ no-part None spelled = refl
 no-part (Some part) spelled = absurd spelled
 
 -- the fields of a flow are new, one after another
-pub fields-new : (flow : Flow) (src dst proto class src_port dst_port : Option Part) (action : TableDo) (loc : ℕ) → AreSpelled flow src dst proto class src_port dst_port → AreNew (record { flow = flow; src = src; dst = dst; proto = proto; class = class; src_port = src_port; dst_port = dst_port; action = action; loc = loc }) (draft_of flow) (fields_of flow)
-unfolding fields_of
+pub fields-new : (flow : Flow) (src dst proto class src_port dst_port : Option Part) (action : TableDo) (loc : ℕ) → AreSpelled flow src dst proto class src_port dst_port → AreNew (record { flow = flow; src = src; dst = dst; proto = proto; class = class; src_port = src_port; dst_port = dst_port; action = action; loc = loc }) (draft_of flow) (flow_fields flow)
+unfolding flow_fields
 fields-new Ether src dst proto class src_port dst_port action loc spelled =
     (refl, refl, refl, spelled.src, (refl, refl, refl, spelled.dst, (refl, refl, refl, spelled.proto, tt)))
 fields-new Ip4 src dst proto class src_port dst_port action loc spelled =
@@ -35,8 +35,8 @@ pub record IsRead (spec : Spec) (draft : Draft) : Type 0 where
   pub stands : draft.loc ≡ None
   pub is : spec_of_options draft spec.action spec.loc ≡ spec
 
-pub fields-are : (flow : Flow) (src dst proto class src_port dst_port : Option Part) (action : TableDo) (loc : ℕ) → AreSpelled flow src dst proto class src_port dst_port → let spec : Spec = record { flow = flow; src = src; dst = dst; proto = proto; class = class; src_port = src_port; dst_port = dst_port; action = action; loc = loc } in IsRead spec (with_fields spec (draft_of flow) (fields_of flow))
-unfolding fields_of
+pub fields-are : (flow : Flow) (src dst proto class src_port dst_port : Option Part) (action : TableDo) (loc : ℕ) → AreSpelled flow src dst proto class src_port dst_port → let spec : Spec = record { flow = flow; src = src; dst = dst; proto = proto; class = class; src_port = src_port; dst_port = dst_port; action = action; loc = loc } in IsRead spec (with_fields spec (draft_of flow) (flow_fields flow))
+unfolding flow_fields
 fields-are Ether src dst proto class src_port dst_port action loc spelled =
     let class-none = no-part class spelled.class in
     let src_port-none = no-part src_port spelled.src_port in

@@ -3,7 +3,7 @@ use Rattle.std.proofs.Common.{◌≡◌, ℕ, ◌≤◌, List, [], ◌∷◌, ap
 use Rattle.vnff_base.specs.Lines.{words_of}
 use Rattle.ntuple_text.specs.Drafts.{draft_of, read_options, with_action, with_loc}
 use Rattle.ntuple_text.specs.Keys.{flow_of, flow_word}
-use Rattle.ntuple_text.specs.SpecTexts.{fields_of, spec_text}
+use Rattle.ntuple_text.specs.SpecTexts.{flow_fields, spec_text}
 use Rattle.ntuple_text.specs.Spellable.{IsSpellable}
 use Rattle.ntuple_text.specs.Steps.{and_then}
 use Rattle.ntuple_text.specs.TableLines.{spec_of_options, after_line, spec_at_end, after_directive, flow_spec, spec_of, without_command}
@@ -37,9 +37,9 @@ flow-read Tcp6 = refl
 flow-read Udp6 = refl
 
 -- the options give a draft with all of the spec
-options-read : (pairs : ℕ) (spec : Spec) → pairs ≤ 16 → IsSpellable pairs spec → let draft = with_fields spec (draft_of spec.flow) (fields_of spec.flow) in read_options pairs (draft_of spec.flow) (option_words spec) ≡ Ok (with_loc (with_action draft spec.action) spec.loc)
+options-read : (pairs : ℕ) (spec : Spec) → pairs ≤ 16 → IsSpellable pairs spec → let draft = with_fields spec (draft_of spec.flow) (flow_fields spec.flow) in read_options pairs (draft_of spec.flow) (option_words spec) ≡ Ok (with_loc (with_action draft spec.action) spec.loc)
 options-read pairs spec few good =
-    let fields = fields_of spec.flow in
+    let fields = flow_fields spec.flow in
     let start = draft_of spec.flow in
     let draft = with_fields spec start fields in
     let end = end_words spec.action spec.loc in
@@ -52,7 +52,7 @@ spec-read : (table : TableMap) (spec : Spec) → table.pairs ≤ 16 → IsSpella
 unfolding spec_of
 spec-read table spec few good =
     let words = option_words spec in
-    let draft = with_fields spec (draft_of spec.flow) (fields_of spec.flow) in
+    let draft = with_fields spec (draft_of spec.flow) (flow_fields spec.flow) in
     let left = fields-are spec.flow spec.src spec.dst spec.proto spec.class spec.src_port spec.dst_port spec.action spec.loc good.parts in
     ap (flow_spec table words) (flow-read spec.flow) ∙ (ap (and_then (spec_at_end table)) (options-read table.pairs spec few good) ∙ (spec_at_end-read table draft spec.action spec.loc ∙ ap Ok left.is))
 

@@ -10,8 +10,8 @@ use Rattle.ntuple_text.specs.declared.draft.Awaits.TheVariants.{OptionWord, Valu
 use Rattle.ntuple_text.specs.declared.draft.Draft.{Draft}
 use Rattle.ntuple_text.specs.declared.error.Fault.{Fault}
 use Rattle.ntuple_text.specs.declared.error.Fault.TheVariants as fault
-use Rattle.ntuple_text.specs.declared.key.Field.{Field}
-use Rattle.ntuple_text.specs.declared.key.Field.TheVariants.{SrcMac, DstMac, EtherType, SrcIp, DstIp, Tos, TrafficClass, L4Proto, SrcPort, DstPort}
+use Rattle.ntuple_text.specs.declared.key.SpecField.{SpecField}
+use Rattle.ntuple_text.specs.declared.key.SpecField.TheVariants.{SrcMac, DstMac, EtherType, SrcIp, DstIp, Tos, TrafficClass, L4Proto, SrcPort, DstPort}
 use Rattle.ntuple_text.specs.declared.key.OptionKey.{OptionKey}
 use Rattle.ntuple_text.specs.declared.key.OptionKey.TheVariants as key
 
@@ -50,7 +50,7 @@ unfolding read_word
 ready-word pairs draft word about ready other is = ready-next pairs draft word draft.awaits ready other ∙ ap (with_option_word draft) is
 
 -- the word of a field names it, and isn't the one before a mask
-pub name-key : (field : Field) → key_of (field_name field) ≡ Some (key.Field field)
+pub name-key : (field : SpecField) → key_of (field_name field) ≡ Some (key.SpecField field)
 unfolding key_of field_of field_name
 name-key SrcMac = refl
 name-key DstMac = refl
@@ -63,7 +63,7 @@ name-key L4Proto = refl
 name-key SrcPort = refl
 name-key DstPort = refl
 
-pub name-other : (field : Field) → bytes_eq (field_name field) (codes "m") ≡ false
+pub name-other : (field : SpecField) → bytes_eq (field_name field) (codes "m") ≡ false
 unfolding field_name
 name-other SrcMac = refl
 name-other DstMac = refl

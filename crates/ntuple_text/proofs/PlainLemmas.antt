@@ -11,10 +11,10 @@ use Rattle.vnff_base.specs.Lines.{IsWord, is_blank}
 use Rattle.vnff_base.proofs.TextLaws.{above_blanks, digit_char-high}
 use Rattle.ntuple_text.specs.Keys.{form_of}
 use Rattle.ntuple_text.specs.SpecTexts.{form_range, form_text, four_digits, ipv4_text, ipv6_text, leading_zeros, mac_text, next_piece, piece_text, pieces_text, type_text, value_text}
-use Rattle.ntuple_text.specs.declared.key.Field.{Field}
-use Rattle.ntuple_text.specs.declared.key.Field.TheVariants.{SrcMac, DstMac, EtherType, SrcIp, DstIp, Tos, TrafficClass, L4Proto, SrcPort, DstPort}
-use Rattle.ntuple_text.specs.declared.key.Form.{Form}
-use Rattle.ntuple_text.specs.declared.key.Form.TheVariants.{Mac, Ipv4, Ipv6, Bits8, Bits16}
+use Rattle.ntuple_text.specs.declared.key.SpecField.{SpecField}
+use Rattle.ntuple_text.specs.declared.key.SpecField.TheVariants.{SrcMac, DstMac, EtherType, SrcIp, DstIp, Tos, TrafficClass, L4Proto, SrcPort, DstPort}
+use Rattle.ntuple_text.specs.declared.key.FieldForm.{FieldForm}
+use Rattle.ntuple_text.specs.declared.key.FieldForm.TheVariants.{Mac, Ipv4, Ipv6, Bits8, Bits16}
 use Rattle.ntuple_text.specs.declared.piece.Spelling.{Spelling}
 use Rattle.ntuple_text.specs.declared.piece.Spelling.TheVariants.{MacGroup, Ipv4Byte, Ipv6Group}
 use Rattle.ntuple_text.specs.declared.spec.Flow.{Flow}
@@ -114,7 +114,7 @@ ipv6-plain v =
     pieces-plain Ipv6Group 58 first rest (omega arith) small
 
 -- the value of a field
-form-plain : (form : Form) (v : ℕ) → v < form_range form → IsPlain (form_text form v)
+form-plain : (form : FieldForm) (v : ℕ) → v < form_range form → IsPlain (form_text form v)
 unfolding form_text
 form-plain Mac v small = mac-plain v
 form-plain Ipv4 v small = ipv4-plain v
@@ -122,7 +122,7 @@ form-plain Ipv6 v small = ipv6-plain v
 form-plain Bits8 v small = decimal-plain v (omega arith)
 form-plain Bits16 v small = decimal-plain v (omega arith)
 
-pub value-plain : (flow : Flow) (field : Field) (v : ℕ) → v < form_range (form_of flow field) → IsPlain (value_text flow field v)
+pub value-plain : (flow : Flow) (field : SpecField) (v : ℕ) → v < form_range (form_of flow field) → IsPlain (value_text flow field v)
 unfolding value_text
 value-plain flow SrcMac v small = mac-plain v
 value-plain flow DstMac v small = mac-plain v

@@ -18,8 +18,8 @@ use Rattle.ntuple_text.specs.Spellable.{IsActionOf}
 use Rattle.ntuple_text.specs.Values.{action_value, location_value, queue_value, field_value}
 use Rattle.ntuple_text.specs.declared.error.Fault.{Fault}
 use Rattle.ntuple_text.specs.declared.error.Fault.TheVariants.{Address, Loc, Number, Queue as WrongQueue}
-use Rattle.ntuple_text.specs.declared.key.Form.{Form}
-use Rattle.ntuple_text.specs.declared.key.Form.TheVariants.{Mac, Ipv4, Ipv6, Bits8, Bits16}
+use Rattle.ntuple_text.specs.declared.key.FieldForm.{FieldForm}
+use Rattle.ntuple_text.specs.declared.key.FieldForm.TheVariants.{Mac, Ipv4, Ipv6, Bits8, Bits16}
 use Rattle.ntuple_text.specs.declared.piece.Spelling.{Spelling}
 use Rattle.ntuple_text.specs.declared.piece.Spelling.TheVariants.{MacGroup, Ipv4Byte, Ipv6Group}
 use Rattle.ntuple_text.specs.declared.spec.TableDo.TheVariants.{Drop, Queue}
@@ -158,7 +158,7 @@ unfolding numeral_up_to
 numeral-small most word = within-small most (numeral_of word)
 
 -- the value that is read of a word is in the range of its form
-pub value-in_range : (form : Form) (word : List ℕ) → IfOk (field_value form word) (λ v. v < form_range form)
+pub value-in_range : (form : FieldForm) (word : List ℕ) → IfOk (field_value form word) (λ v. v < form_range form)
 unfolding field_value
 value-in_range Mac word = ok-or (λ n. n < 2 ^ 48) Address (mac_of word) (mac-small word)
 value-in_range Ipv4 word = ok-or (λ n. n < 2 ^ 32) Address (ipv4_of word) (ipv4-small word)
@@ -166,7 +166,7 @@ value-in_range Ipv6 word = ok-or (λ n. n < 2 ^ 128) Address (ipv6_of word) (ipv
 value-in_range Bits8 word = numeral-small 255 word
 value-in_range Bits16 word = numeral-small 65535 word
 
-pub value-small : (form : Form) (word : List ℕ) (v : ℕ) → field_value form word ≡ Ok v → v < form_range form
+pub value-small : (form : FieldForm) (word : List ℕ) (v : ℕ) → field_value form word ≡ Ok v → v < form_range form
 value-small form word v read = IfOk-at_ok (λ v. v < form_range form) read (value-in_range form word)
 
 -- and so are a queue, an action and a location

@@ -5,16 +5,16 @@ use Rattle.ntuple_text.specs.Drafts.{with_skip}
 use Rattle.ntuple_text.specs.Keys.{form_of, is_any_protocol, is_ether, has_field, is_ip4, is_ip6}
 use Rattle.ntuple_text.specs.SpecTexts.{form_range}
 use Rattle.ntuple_text.specs.Spellable.{IsSpelledIn, address_form, class_form, port_form, proto_form}
-use Rattle.ntuple_text.specs.declared.key.Field.{Field}
-use Rattle.ntuple_text.specs.declared.key.Field.TheVariants.{SrcMac, DstMac, EtherType, SrcIp, DstIp, Tos, TrafficClass, L4Proto, SrcPort, DstPort}
-use Rattle.ntuple_text.specs.declared.key.Form.{Form}
-use Rattle.ntuple_text.specs.declared.key.Form.TheVariants.{Mac, Ipv4, Ipv6, Bits8, Bits16}
+use Rattle.ntuple_text.specs.declared.key.SpecField.{SpecField}
+use Rattle.ntuple_text.specs.declared.key.SpecField.TheVariants.{SrcMac, DstMac, EtherType, SrcIp, DstIp, Tos, TrafficClass, L4Proto, SrcPort, DstPort}
+use Rattle.ntuple_text.specs.declared.key.FieldForm.{FieldForm}
+use Rattle.ntuple_text.specs.declared.key.FieldForm.TheVariants.{Mac, Ipv4, Ipv6, Bits8, Bits16}
 use Rattle.ntuple_text.specs.declared.spec.Flow.{Flow}
 use Rattle.ntuple_text.specs.declared.spec.Flow.TheVariants.{Ether, Ip4, Ip6}
 use Rattle.ntuple_text.specs.declared.spec.Part.{Part}
 
 -- how a field's part is spelled, by the part that stands for it
-abbrev pub slot_form : Flow → Field → Option Form
+abbrev pub slot_form : Flow → SpecField → Option FieldForm
 slot_form flow SrcMac = Some (address_form flow)
 slot_form flow DstMac = Some (address_form flow)
 slot_form flow EtherType = proto_form flow
@@ -57,7 +57,7 @@ port-slot Ip4 ports = absurd (false≢true ports)
 port-slot Ip6 ports = absurd (false≢true ports)
 port-slot flow ports = refl
 
-pub slot_form-is : (flow : Flow) (field : Field) → has_field flow field ≡ true → slot_form flow field ≡ Some (form_of flow field)
+pub slot_form-is : (flow : Flow) (field : SpecField) → has_field flow field ≡ true → slot_form flow field ≡ Some (form_of flow field)
 slot_form-is flow SrcMac has = mac-slot flow has
 slot_form-is flow DstMac has = mac-slot flow has
 slot_form-is flow EtherType has = type-slot flow has
@@ -70,11 +70,11 @@ slot_form-is flow SrcPort has = port-slot flow has
 slot_form-is flow DstPort has = port-slot flow has
 
 -- a part that is spelled in the field's form
-pub in-slot : (flow : Flow) (field : Field) (part : Option Part) → has_field flow field ≡ true → IsSpelledIn (Some (form_of flow field)) part → IsSpelledIn (slot_form flow field) part
-in-slot flow field part has spelled = let P : Option Form → Type 0 = λ form. IsSpelledIn form part in subst P (sym (slot_form-is flow field has)) spelled
+pub in-slot : (flow : Flow) (field : SpecField) (part : Option Part) → has_field flow field ≡ true → IsSpelledIn (Some (form_of flow field)) part → IsSpelledIn (slot_form flow field) part
+in-slot flow field part has spelled = let P : Option FieldForm → Type 0 = λ form. IsSpelledIn form part in subst P (sym (slot_form-is flow field has)) spelled
 
 -- no bit of a mask is set where none is given
-pub range-some : (form : Form) → 0 < form_range form
+pub range-some : (form : FieldForm) → 0 < form_range form
 range-some Mac = omega arith
 range-some Ipv4 = omega arith
 range-some Ipv6 = omega arith
@@ -82,6 +82,6 @@ range-some Bits8 = omega arith
 range-some Bits16 = omega arith
 
 -- a mask that is spelled like the value
-pub with_skip-spelled : (form : Form) (part : Option Part) (mask : ℕ) → mask < form_range form → IsSpelledIn (Some form) part → IsSpelledIn (Some form) (option_map (with_skip mask) part)
+pub with_skip-spelled : (form : FieldForm) (part : Option Part) (mask : ℕ) → mask < form_range form → IsSpelledIn (Some form) part → IsSpelledIn (Some form) (option_map (with_skip mask) part)
 with_skip-spelled form None mask small spelled = tt
 with_skip-spelled form (Some part) mask small spelled = (spelled.0, small)

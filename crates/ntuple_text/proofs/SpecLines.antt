@@ -7,11 +7,11 @@ use Rattle.std.proofs.lemmas.List.Elements.{All-nil, All-cons, All-append, All-w
 use Rattle.vnff_base.specs.Lines.{IsWord, words_of, IsLine, is_line_feed}
 use Rattle.ntuple_text.specs.Drafts.{draft_of}
 use Rattle.ntuple_text.specs.Keys.{field_name, flow_word, form_of}
-use Rattle.ntuple_text.specs.SpecTexts.{value_text, fields_of, spec_part, spec_text}
+use Rattle.ntuple_text.specs.SpecTexts.{value_text, flow_fields, spec_part, spec_text}
 use Rattle.ntuple_text.specs.Spellable.{IsActionOf, IsSpelledIn, IsSpellable}
 use Rattle.ntuple_text.specs.declared.draft.Draft.{Draft}
-use Rattle.ntuple_text.specs.declared.key.Field.{Field}
-use Rattle.ntuple_text.specs.declared.key.Field.TheVariants.{SrcMac, DstMac, EtherType, SrcIp, DstIp, Tos, TrafficClass, L4Proto, SrcPort, DstPort}
+use Rattle.ntuple_text.specs.declared.key.SpecField.{SpecField}
+use Rattle.ntuple_text.specs.declared.key.SpecField.TheVariants.{SrcMac, DstMac, EtherType, SrcIp, DstIp, Tos, TrafficClass, L4Proto, SrcPort, DstPort}
 use Rattle.ntuple_text.specs.declared.spec.Flow.{Flow}
 use Rattle.ntuple_text.specs.declared.spec.Flow.TheVariants.{Ether, Ip4, Tcp4, Udp4, Ip6, Tcp6, Udp6}
 use Rattle.ntuple_text.specs.declared.spec.Part.{Part}
@@ -44,7 +44,7 @@ flow-plain Ip6 = plain-test (codes "ip6") refl refl
 flow-plain Tcp6 = plain-test (codes "tcp6") refl refl
 flow-plain Udp6 = plain-test (codes "udp6") refl refl
 
-name-plain : (field : Field) → IsPlain (field_name field)
+name-plain : (field : SpecField) → IsPlain (field_name field)
 unfolding field_name
 name-plain SrcMac = plain-test (codes "src") refl refl
 name-plain DstMac = plain-test (codes "dst") refl refl
@@ -63,7 +63,7 @@ mask-plain text true plain = All-nil IsPlain
 mask-plain text false plain =
     All-cons IsPlain (codes "m") (text ∷ []) (plain-test (codes "m") refl refl) (All-cons IsPlain text [] plain (All-nil IsPlain))
 
-given-plain : (flow : Flow) (field : Field) (part : Option Part) → IsSpelledIn (Some (form_of flow field)) part → All IsPlain (given_words flow field part)
+given-plain : (flow : Flow) (field : SpecField) (part : Option Part) → IsSpelledIn (Some (form_of flow field)) part → All IsPlain (given_words flow field part)
 given-plain flow field None spelled = All-nil IsPlain
 given-plain flow field (Some part) spelled =
     let value = value_text flow field part.value in
@@ -71,7 +71,7 @@ given-plain flow field (Some part) spelled =
     All-cons IsPlain (field_name field) (value ∷ mask) (name-plain field) (All-cons IsPlain value mask (value-plain flow field part.value spelled.0) (mask-plain (value_text flow field part.skip) (eqb part.skip 0) (value-plain flow field part.skip spelled.1)))
 
 -- the words of all fields, and those after them
-fields-plain : (spec : Spec) (draft : Draft) (fields : List Field) → AreNew spec draft fields → All IsPlain (field_words spec fields)
+fields-plain : (spec : Spec) (draft : Draft) (fields : List SpecField) → AreNew spec draft fields → All IsPlain (field_words spec fields)
 fields-plain spec draft [] new = All-nil IsPlain
 fields-plain spec draft (field ∷ fields) new =
     let part = spec_part spec field in
@@ -90,7 +90,7 @@ end-plain pairs action loc few below inside =
 
 options-plain : (pairs : ℕ) (spec : Spec) → pairs ≤ 16 → IsSpellable pairs spec → All IsPlain (flow_word spec.flow ∷ option_words spec)
 options-plain pairs spec few good =
-    let fields = fields_of spec.flow in
+    let fields = flow_fields spec.flow in
     let words = field_words spec fields in
     let end = end_words spec.action spec.loc in
     let new = fields-new spec.flow spec.src spec.dst spec.proto spec.class spec.src_port spec.dst_port spec.action spec.loc good.parts in

@@ -13,9 +13,9 @@ use Rattle.ntuple_text.specs.declared.draft.Awaits.{Awaits}
 use Rattle.ntuple_text.specs.declared.draft.Awaits.TheVariants.{OptionWord, Value, Mark, Mask}
 use Rattle.ntuple_text.specs.declared.draft.Draft.{Draft}
 use Rattle.ntuple_text.specs.declared.error.Fault.TheVariants.{NotInFlow, Twice}
-use Rattle.ntuple_text.specs.declared.key.Field.{Field}
-use Rattle.ntuple_text.specs.declared.key.Field.TheVariants.{SrcMac, DstMac, EtherType, SrcIp, DstIp, Tos, TrafficClass, L4Proto, SrcPort, DstPort}
-use Rattle.ntuple_text.specs.declared.key.Form.{Form}
+use Rattle.ntuple_text.specs.declared.key.SpecField.{SpecField}
+use Rattle.ntuple_text.specs.declared.key.SpecField.TheVariants.{SrcMac, DstMac, EtherType, SrcIp, DstIp, Tos, TrafficClass, L4Proto, SrcPort, DstPort}
+use Rattle.ntuple_text.specs.declared.key.FieldForm.{FieldForm}
 use Rattle.ntuple_text.specs.declared.key.OptionKey.{OptionKey}
 use Rattle.ntuple_text.specs.declared.key.OptionKey.TheVariants as key
 use Rattle.ntuple_text.specs.declared.spec.Flow.{Flow}
@@ -28,7 +28,7 @@ use Rattle.ntuple_text.proofs.TableLemmas.{last_free-below}
 
 -- an option is about a field of the flow, or about no field
 abbrev pub IsKeyOf : Flow → OptionKey → Type 0
-IsKeyOf flow (key.Field field) = has_field flow field ≡ true
+IsKeyOf flow (key.SpecField field) = has_field flow field ≡ true
 IsKeyOf flow about = ⊤
 
 -- what is awaited is of a field of the flow, or of no field
@@ -50,7 +50,7 @@ pub record IsDraft (pairs : ℕ) (draft : Draft) : Type 0 where
   pub awaits : IsAwaited draft.flow draft.awaits
 
 -- a part in the place of another
-part-spelled : (draft : Draft) (field : Field) → PartsAreSpelled draft → IsSpelledIn (slot_form draft.flow field) (part_of draft field)
+part-spelled : (draft : Draft) (field : SpecField) → PartsAreSpelled draft → IsSpelledIn (slot_form draft.flow field) (part_of draft field)
 part-spelled draft SrcMac h = h.src
 part-spelled draft DstMac h = h.dst
 part-spelled draft EtherType h = h.proto
@@ -62,7 +62,7 @@ part-spelled draft L4Proto h = h.proto
 part-spelled draft SrcPort h = h.src_port
 part-spelled draft DstPort h = h.dst_port
 
-with_part-keeps : (pairs : ℕ) (draft : Draft) (field : Field) (part : Option Part) (next : Awaits) → IsDraft pairs draft → IsSpelledIn (slot_form draft.flow field) part → IsAwaited draft.flow next → IsDraft pairs (with_awaits (with_part draft field part) next)
+with_part-keeps : (pairs : ℕ) (draft : Draft) (field : SpecField) (part : Option Part) (next : Awaits) → IsDraft pairs draft → IsSpelledIn (slot_form draft.flow field) part → IsAwaited draft.flow next → IsDraft pairs (with_awaits (with_part draft field part) next)
 with_part-keeps pairs draft SrcMac part next h new awaited = record { parts = record { src = new; dst = h.parts.dst; proto = h.parts.proto; class = h.parts.class; src_port = h.parts.src_port; dst_port = h.parts.dst_port }; action = h.action; loc = h.loc; awaits = awaited }
 with_part-keeps pairs draft DstMac part next h new awaited = record { parts = record { src = h.parts.src; dst = new; proto = h.parts.proto; class = h.parts.class; src_port = h.parts.src_port; dst_port = h.parts.dst_port }; action = h.action; loc = h.loc; awaits = awaited }
 with_part-keeps pairs draft EtherType part next h new awaited = record { parts = record { src = h.parts.src; dst = h.parts.dst; proto = new; class = h.parts.class; src_port = h.parts.src_port; dst_port = h.parts.dst_port }; action = h.action; loc = h.loc; awaits = awaited }
@@ -88,9 +88,9 @@ unless_stood-keeps pairs draft stood about h of =
 
 with_option-keeps : (pairs : ℕ) (draft : Draft) (about : OptionKey) → IsDraft pairs draft → IfOk (with_option draft about) (IsDraft pairs)
 unfolding with_option
-with_option-keeps pairs draft (key.Field field) h =
-    ok-if (IsDraft pairs) (has_field draft.flow field) (unless_stood draft (is_some (part_of draft field)) (key.Field field)) (Err NotInFlow)
-    (λ has. unless_stood-keeps pairs draft (is_some (part_of draft field)) (key.Field field) h has) (λ other. tt)
+with_option-keeps pairs draft (key.SpecField field) h =
+    ok-if (IsDraft pairs) (has_field draft.flow field) (unless_stood draft (is_some (part_of draft field)) (key.SpecField field)) (Err NotInFlow)
+    (λ has. unless_stood-keeps pairs draft (is_some (part_of draft field)) (key.SpecField field) h has) (λ other. tt)
 with_option-keeps pairs draft key.Action h = unless_stood-keeps pairs draft (is_some draft.action) key.Action h tt
 with_option-keeps pairs draft key.Queue h = unless_stood-keeps pairs draft (is_some draft.action) key.Queue h tt
 with_option-keeps pairs draft key.Loc h = unless_stood-keeps pairs draft (is_some draft.loc) key.Loc h tt
@@ -108,7 +108,7 @@ loc-keeps pairs draft loc h below = record { parts = h.parts; action = h.action;
 
 with_value_word-keeps : (pairs : ℕ) (draft : Draft) (about : OptionKey) (word : List ℕ) → IsDraft pairs draft → IsKeyOf draft.flow about → IfOk (with_value_word pairs draft about word) (IsDraft pairs)
 unfolding with_value_word
-with_value_word-keeps pairs draft (key.Field field) word h has =
+with_value_word-keeps pairs draft (key.SpecField field) word h has =
     let form = form_of draft.flow field in
     ok-then (λ v. v < form_range form) (IsDraft pairs) (λ value. Ok (with_value draft field value)) (field_value form word) (value-in_range form word)
     (λ v small. let part : Part = record { value = v; skip = 0 } in with_part-keeps pairs draft field (Some part) (Mark field) h (in-slot draft.flow field (Some part) has (small, range-some form)) has)
@@ -120,21 +120,21 @@ with_value_word-keeps pairs draft key.Loc word h of =
     ok-then (λ loc. loc < 1024) (IsDraft pairs) (λ loc. Ok (with_loc draft loc)) (location_value word) (location-below word) (λ loc below. loc-keeps pairs draft loc h below)
 
 -- the mask of a field, and the word `m` before it
-with_mask_word-spelled : (draft : Draft) (field : Field) (mask : ℕ) → PartsAreSpelled draft → has_field draft.flow field ≡ true → mask < form_range (form_of draft.flow field) → IsSpelledIn (slot_form draft.flow field) (option_map (with_skip mask) (part_of draft field))
+with_mask_word-spelled : (draft : Draft) (field : SpecField) (mask : ℕ) → PartsAreSpelled draft → has_field draft.flow field ≡ true → mask < form_range (form_of draft.flow field) → IsSpelledIn (slot_form draft.flow field) (option_map (with_skip mask) (part_of draft field))
 with_mask_word-spelled draft field mask h has small =
     let part = part_of draft field in
-    let P : Option Form → Type 0 = λ form. IsSpelledIn form part in
+    let P : Option FieldForm → Type 0 = λ form. IsSpelledIn form part in
     let spelled = subst P (slot_form-is draft.flow field has) (part-spelled draft field h) in
     in-slot draft.flow field (option_map (with_skip mask) part) has (with_skip-spelled (form_of draft.flow field) part mask small spelled)
 
-with_mask_word-keeps : (pairs : ℕ) (draft : Draft) (field : Field) (word : List ℕ) → IsDraft pairs draft → has_field draft.flow field ≡ true → IfOk (with_mask_word draft field word) (IsDraft pairs)
+with_mask_word-keeps : (pairs : ℕ) (draft : Draft) (field : SpecField) (word : List ℕ) → IsDraft pairs draft → has_field draft.flow field ≡ true → IfOk (with_mask_word draft field word) (IsDraft pairs)
 unfolding with_mask_word
 with_mask_word-keeps pairs draft field word h has =
     let form = form_of draft.flow field in
     ok-then (λ v. v < form_range form) (IsDraft pairs) (λ mask. Ok (with_mask draft field mask)) (field_value form word) (value-in_range form word)
     (λ mask small. with_part-keeps pairs draft field (option_map (with_skip mask) (part_of draft field)) OptionWord h (with_mask_word-spelled draft field mask h.parts has small) tt)
 
-with_mark_word-keeps : (pairs : ℕ) (draft : Draft) (field : Field) (word : List ℕ) → IsDraft pairs draft → has_field draft.flow field ≡ true → IfOk (with_mark_word draft field word) (IsDraft pairs)
+with_mark_word-keeps : (pairs : ℕ) (draft : Draft) (field : SpecField) (word : List ℕ) → IsDraft pairs draft → has_field draft.flow field ≡ true → IfOk (with_mark_word draft field word) (IsDraft pairs)
 with_mark_word-keeps pairs draft field word h has =
     ok-if (IsDraft pairs) (bytes_eq word (codes "m")) (Ok (with_awaits draft (Mask field))) (with_option_word draft (key_of word))
     (λ mark. with_awaits-keeps pairs draft (Mask field) h has) (λ other. with_option_word-keeps pairs draft (key_of word) h)

@@ -7,12 +7,12 @@ use Rattle.std.specs.Option.{IfSome}
 use Rattle.std.proofs.lemmas.Fmt.{length-decimal-le}
 use Rattle.std.proofs.lemmas.Option.{IfSome_then}
 use Rattle.ntuple_text.specs.Keys.{field_name, flow_word, form_of}
-use Rattle.ntuple_text.specs.SpecTexts.{four_digits, leading_zeros, piece_text, next_piece, pieces_text, mac_text, ipv4_text, ipv6_text, form_range, form_text, type_text, value_text, field_word, fields_of, spec_part, skip_text, mask_text, part_text, optional_part_text, field_text, queue_words, action_words, loc_words, options_text, spec_text, slot_text, longest_line}
+use Rattle.ntuple_text.specs.SpecTexts.{four_digits, leading_zeros, piece_text, next_piece, pieces_text, mac_text, ipv4_text, ipv6_text, form_range, form_text, type_text, value_text, field_word, flow_fields, spec_part, skip_text, mask_text, part_text, optional_part_text, field_text, queue_words, action_words, loc_words, options_text, spec_text, slot_text, longest_line}
 use Rattle.ntuple_text.specs.Spellable.{AreSpelled, IsSpelledIn, IsActionOf, IsSpellable, IsTable}
-use Rattle.ntuple_text.specs.declared.key.Field.{Field}
-use Rattle.ntuple_text.specs.declared.key.Field.TheVariants.{SrcMac, DstMac, EtherType, SrcIp, DstIp, Tos, TrafficClass, L4Proto, SrcPort, DstPort}
-use Rattle.ntuple_text.specs.declared.key.Form.{Form}
-use Rattle.ntuple_text.specs.declared.key.Form.TheVariants.{Mac, Ipv4, Ipv6, Bits8, Bits16}
+use Rattle.ntuple_text.specs.declared.key.SpecField.{SpecField}
+use Rattle.ntuple_text.specs.declared.key.SpecField.TheVariants.{SrcMac, DstMac, EtherType, SrcIp, DstIp, Tos, TrafficClass, L4Proto, SrcPort, DstPort}
+use Rattle.ntuple_text.specs.declared.key.FieldForm.{FieldForm}
+use Rattle.ntuple_text.specs.declared.key.FieldForm.TheVariants.{Mac, Ipv4, Ipv6, Bits8, Bits16}
 use Rattle.ntuple_text.specs.declared.piece.Spelling.{Spelling}
 use Rattle.ntuple_text.specs.declared.piece.Spelling.TheVariants.{MacGroup, Ipv4Byte, Ipv6Group}
 use Rattle.ntuple_text.specs.declared.spec.Flow.{Flow}
@@ -70,14 +70,14 @@ length-ipv6 address =
     length-address Ipv6Group 58 (address / 0x10000000000000000000000000000 % 65536) rest (omega arith, (omega arith, (omega arith, (omega arith, (omega arith, (omega arith, (omega arith, (omega arith, tt))))))))
 
 -- the most bytes of a value of a form
-abbrev form_most : Form → ℕ
+abbrev form_most : FieldForm → ℕ
 form_most Mac = 17
 form_most Ipv4 = 15
 form_most Ipv6 = 39
 form_most Bits8 = 3
 form_most Bits16 = 5
 
-length-form : (form : Form) (value : ℕ) → value < form_range form → length (form_text form value) ≤ form_most form
+length-form : (form : FieldForm) (value : ℕ) → value < form_range form → length (form_text form value) ≤ form_most form
 unfolding form_text
 length-form Mac value small = length-mac value
 length-form Ipv4 value small = length-ipv4 value
@@ -88,11 +88,11 @@ length-form Bits16 value small = length-decimal-le 5 value (omega arith) (omega 
 -- ---- fields
 
 -- the most bytes of a field's value: an Ethernet type has `0x` and four digits
-abbrev value_most : Flow → Field → ℕ
+abbrev value_most : Flow → SpecField → ℕ
 value_most flow EtherType = 6
 value_most flow field = form_most (form_of flow field)
 
-length-value : (flow : Flow) (field : Field) (value : ℕ) → value < form_range (form_of flow field) → length (value_text flow field value) ≤ value_most flow field
+length-value : (flow : Flow) (field : SpecField) (value : ℕ) → value < form_range (form_of flow field) → length (value_text flow field value) ≤ value_most flow field
 unfolding value_text type_text form_text
 length-value flow SrcMac value small = length-mac value
 length-value flow DstMac value small = length-mac value
@@ -106,37 +106,37 @@ length-value flow SrcPort value small = length-form Bits16 value small
 length-value flow DstPort value small = length-form Bits16 value small
 
 -- the most bytes of a field that is given: its word, and its value and its mask after ` m `
-abbrev field_most : Flow → Field → ℕ
+abbrev field_most : Flow → SpecField → ℕ
 field_most flow field = length (field_word field) + (value_most flow field + (3 + value_most flow field))
 
-length-mask : (flow : Flow) (field : Field) (mask : ℕ) → mask < form_range (form_of flow field) → length (mask_text flow field mask) ≤ 3 + value_most flow field
+length-mask : (flow : Flow) (field : SpecField) (mask : ℕ) → mask < form_range (form_of flow field) → length (mask_text flow field mask) ≤ 3 + value_most flow field
 unfolding mask_text skip_text
 length-mask flow field mask small =
     let text = value_text flow field mask in
     let here : length (codes " m " ++ text) ≤ 3 + value_most flow field = omega (arith, length-value flow field mask small, length-append (codes " m ") text) in
     elim (mask == 0) as (λ b. length (cond b [] (codes " m " ++ text)) ≤ 3 + value_most flow field) [ true ↦ omega arith | false ↦ here ]
 
-length-part : (flow : Flow) (field : Field) (part : Part) → part.value < form_range (form_of flow field) → part.skip < form_range (form_of flow field) → length (part_text flow field part) ≤ field_most flow field
+length-part : (flow : Flow) (field : SpecField) (part : Part) → part.value < form_range (form_of flow field) → part.skip < form_range (form_of flow field) → length (part_text flow field part) ≤ field_most flow field
 unfolding part_text
 length-part flow field part value skip =
     let text = value_text flow field part.value in
     let mask = mask_text flow field part.skip in
     omega (arith, length-value flow field part.value value, length-mask flow field part.skip skip, length-append (field_word field) (text ++ mask), length-append text mask)
 
-length-given : (flow : Flow) (field : Field) (part : Option Part) → IsSpelledIn (Some (form_of flow field)) part → length (optional_part_text flow field part) ≤ field_most flow field
+length-given : (flow : Flow) (field : SpecField) (part : Option Part) → IsSpelledIn (Some (form_of flow field)) part → length (optional_part_text flow field part) ≤ field_most flow field
 length-given flow field None spelled = omega arith
 length-given flow field (Some part) spelled = length-part flow field part spelled.0 spelled.1
 
 -- the parts of these fields are spelled in their forms
-abbrev AreGiven : Spec → List Field → Type 0
+abbrev AreGiven : Spec → List SpecField → Type 0
 AreGiven spec [] = Unit {0}
 AreGiven spec (field ∷ fields) = IsSpelledIn (Some (form_of spec.flow field)) (spec_part spec field) × AreGiven spec fields
 
-abbrev fields_most : Flow → List Field → ℕ
+abbrev fields_most : Flow → List SpecField → ℕ
 fields_most flow [] = 0
 fields_most flow (field ∷ fields) = field_most flow field + fields_most flow fields
 
-length-fields : (spec : Spec) (fields : List Field) → AreGiven spec fields → length (flat_map (field_text spec) fields) ≤ fields_most spec.flow fields
+length-fields : (spec : Spec) (fields : List SpecField) → AreGiven spec fields → length (flat_map (field_text spec) fields) ≤ fields_most spec.flow fields
 unfolding field_text
 length-fields spec [] given = omega arith
 length-fields spec (field ∷ fields) given =
@@ -145,16 +145,16 @@ length-fields spec (field ∷ fields) given =
     omega (arith, here, later, length-append (field_text spec field) (flat_map (field_text spec) fields))
 
 -- the fields of a flow
-fields-given : (flow : Flow) (src dst proto class src_port dst_port : Option Part) (action : TableDo) (loc : ℕ) → AreSpelled flow src dst proto class src_port dst_port → AreGiven (record { flow = flow; src = src; dst = dst; proto = proto; class = class; src_port = src_port; dst_port = dst_port; action = action; loc = loc }) (fields_of flow)
-unfolding fields_of
+fields-given : (flow : Flow) (src dst proto class src_port dst_port : Option Part) (action : TableDo) (loc : ℕ) → AreSpelled flow src dst proto class src_port dst_port → AreGiven (record { flow = flow; src = src; dst = dst; proto = proto; class = class; src_port = src_port; dst_port = dst_port; action = action; loc = loc }) (flow_fields flow)
+unfolding flow_fields
 fields-given Ether src dst proto class src_port dst_port action loc spelled = (spelled.src, (spelled.dst, (spelled.proto, tt)))
 fields-given Ip4 src dst proto class src_port dst_port action loc spelled = (spelled.src, (spelled.dst, (spelled.class, (spelled.proto, tt))))
 fields-given Ip6 src dst proto class src_port dst_port action loc spelled = (spelled.src, (spelled.dst, (spelled.class, (spelled.proto, tt))))
 fields-given flow src dst proto class src_port dst_port action loc spelled = (spelled.src, (spelled.dst, (spelled.class, (spelled.src_port, (spelled.dst_port, tt)))))
 
 -- the word of a flow and its fields: those of TCP or UDP over IPv6 are the longest
-flow-most : (flow : Flow) → length (flow_word flow) + fields_most flow (fields_of flow) ≤ 245
-unfolding flow_word fields_of field_word field_name
+flow-most : (flow : Flow) → length (flow_word flow) + fields_most flow (flow_fields flow) ≤ 245
+unfolding flow_word flow_fields field_word field_name
 flow-most Ether = lit≤ tt
 flow-most Ip4 = lit≤ tt
 flow-most Tcp4 = lit≤ tt
@@ -177,12 +177,12 @@ length-loc loc small = omega (arith, length-decimal-le 4 loc (omega arith) (omeg
 length-line : (pairs : ℕ) (spec : Spec) → pairs ≤ 16 → IsSpellable pairs spec → length (spec_text spec ++ 10 ∷ []) ≤ longest_line
 unfolding spec_text options_text
 length-line pairs spec few good =
-    let fields = flat_map (field_text spec) (fields_of spec.flow) in
+    let fields = flat_map (field_text spec) (flow_fields spec.flow) in
     let end = action_words spec.action ++ loc_words spec.loc in
     let given = fields-given spec.flow spec.src spec.dst spec.proto spec.class spec.src_port spec.dst_port spec.action spec.loc good.parts in
     omega (
       arith,
-      length-fields spec (fields_of spec.flow) given,
+      length-fields spec (flow_fields spec.flow) given,
       flow-most spec.flow,
       length-action pairs spec.action few good.action,
       length-loc spec.loc good.loc,

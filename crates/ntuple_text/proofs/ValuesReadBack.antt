@@ -5,14 +5,14 @@ use Rattle.ntuple_text.specs.Keys.{form_of}
 use Rattle.ntuple_text.specs.SpecTexts.{form_range, form_text, value_text}
 use Rattle.ntuple_text.specs.Values.{field_value}
 use Rattle.ntuple_text.specs.declared.error.Fault.TheVariants.{Address}
-use Rattle.ntuple_text.specs.declared.key.Field.{Field}
-use Rattle.ntuple_text.specs.declared.key.Field.TheVariants.{SrcMac, DstMac, EtherType, SrcIp, DstIp, Tos, TrafficClass, L4Proto, SrcPort, DstPort}
-use Rattle.ntuple_text.specs.declared.key.Form.{Form}
-use Rattle.ntuple_text.specs.declared.key.Form.TheVariants.{Mac, Ipv4, Ipv6, Bits8, Bits16}
+use Rattle.ntuple_text.specs.declared.key.SpecField.{SpecField}
+use Rattle.ntuple_text.specs.declared.key.SpecField.TheVariants.{SrcMac, DstMac, EtherType, SrcIp, DstIp, Tos, TrafficClass, L4Proto, SrcPort, DstPort}
+use Rattle.ntuple_text.specs.declared.key.FieldForm.{FieldForm}
+use Rattle.ntuple_text.specs.declared.key.FieldForm.TheVariants.{Mac, Ipv4, Ipv6, Bits8, Bits16}
 use Rattle.ntuple_text.specs.declared.spec.Flow.{Flow}
 use Rattle.ntuple_text.proofs.ReadBackLemmas.{numeral_up_to-decimal, numeral_up_to-type, mac_of-mac_text, ipv4_of-ipv4_text, ipv6_of-ipv6_text}
 
-pub form-read : (form : Form) (v : ℕ) → v < form_range form → field_value form (form_text form v) ≡ Ok v
+pub form-read : (form : FieldForm) (v : ℕ) → v < form_range form → field_value form (form_text form v) ≡ Ok v
 unfolding field_value form_text
 form-read Mac v small = ap (λ o. ok_or o Address) (mac_of-mac_text v small)
 form-read Ipv4 v small = ap (λ o. ok_or o Address) (ipv4_of-ipv4_text v small)
@@ -20,7 +20,7 @@ form-read Ipv6 v small = ap (λ o. ok_or o Address) (ipv6_of-ipv6_text v small)
 form-read Bits8 v small = numeral_up_to-decimal 255 v (omega arith) (omega arith)
 form-read Bits16 v small = numeral_up_to-decimal 65535 v (omega arith) (omega arith)
 
-pub value-read : (flow : Flow) (field : Field) (v : ℕ) → v < form_range (form_of flow field) → field_value (form_of flow field) (value_text flow field v) ≡ Ok v
+pub value-read : (flow : Flow) (field : SpecField) (v : ℕ) → v < form_range (form_of flow field) → field_value (form_of flow field) (value_text flow field v) ≡ Ok v
 unfolding field_value value_text form_text
 value-read flow SrcMac v small = ap (λ o. ok_or o Address) (mac_of-mac_text v small)
 value-read flow DstMac v small = ap (λ o. ok_or o Address) (mac_of-mac_text v small)

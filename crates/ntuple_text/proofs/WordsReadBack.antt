@@ -7,9 +7,9 @@ use Rattle.std.proofs.lemmas.List.Elements.{All-head, All-tail}
 use Rattle.vnff_base.specs.Lines.{IsWord, words_of}
 use Rattle.vnff_base.proofs.TextLaws.{words_of-word, words_of-word_blank}
 use Rattle.ntuple_text.specs.Keys.{field_name, flow_word}
-use Rattle.ntuple_text.specs.SpecTexts.{value_text, action_words, field_text, field_word, fields_of, optional_part_text, loc_words, mask_text, options_text, part_text, queue_words, skip_text, spec_part, spec_text}
-use Rattle.ntuple_text.specs.declared.key.Field.{Field}
-use Rattle.ntuple_text.specs.declared.key.Field.TheVariants.{SrcMac, DstMac, EtherType, SrcIp, DstIp, Tos, TrafficClass, L4Proto, SrcPort, DstPort}
+use Rattle.ntuple_text.specs.SpecTexts.{value_text, action_words, field_text, field_word, flow_fields, optional_part_text, loc_words, mask_text, options_text, part_text, queue_words, skip_text, spec_part, spec_text}
+use Rattle.ntuple_text.specs.declared.key.SpecField.{SpecField}
+use Rattle.ntuple_text.specs.declared.key.SpecField.TheVariants.{SrcMac, DstMac, EtherType, SrcIp, DstIp, Tos, TrafficClass, L4Proto, SrcPort, DstPort}
 use Rattle.ntuple_text.specs.declared.spec.Flow.{Flow}
 use Rattle.ntuple_text.specs.declared.spec.Part.{Part}
 use Rattle.ntuple_text.specs.declared.spec.Spec.{Spec}
@@ -17,20 +17,20 @@ use Rattle.ntuple_text.specs.declared.spec.TableDo.{TableDo}
 use Rattle.ntuple_text.specs.declared.spec.TableDo.TheVariants.{Drop, Queue}
 
 -- the words of a mask, where it skips a bit
-abbrev pub mask_words : Flow → Field → ℕ → List (List ℕ)
+abbrev pub mask_words : Flow → SpecField → ℕ → List (List ℕ)
 mask_words flow field mask = if mask == 0 then [] else codes "m" ∷ value_text flow field mask ∷ []
 
 -- the words of a field that is given
-abbrev pub part_words : Flow → Field → Part → List (List ℕ)
+abbrev pub part_words : Flow → SpecField → Part → List (List ℕ)
 part_words flow field part = field_name field ∷ value_text flow field part.value ∷ mask_words flow field part.skip
 
 -- no words, where none is given
-abbrev pub given_words : Flow → Field → Option Part → List (List ℕ)
+abbrev pub given_words : Flow → SpecField → Option Part → List (List ℕ)
 given_words flow field None = []
 given_words flow field (Some part) = part_words flow field part
 
 -- the words of a spec's fields
-abbrev pub field_words : Spec → List Field → List (List ℕ)
+abbrev pub field_words : Spec → List SpecField → List (List ℕ)
 field_words spec fields = flat_map (λ field. given_words spec.flow field (spec_part spec field)) fields
 
 -- the word of an action
@@ -44,7 +44,7 @@ end_words action loc = codes "action" ∷ action_word action ∷ codes "loc" ∷
 
 -- the words of a line past its flow
 abbrev pub option_words : Spec → List (List ℕ)
-option_words spec = field_words spec (fields_of spec.flow) ++ end_words spec.action spec.loc
+option_words spec = field_words spec (flow_fields spec.flow) ++ end_words spec.action spec.loc
 
 -- words, each after a blank
 abbrev pub after_blank : List ℕ → List ℕ
@@ -54,7 +54,7 @@ abbrev pub blank_words : List (List ℕ) → List ℕ
 blank_words words = flat_map after_blank words
 
 -- the text of a field is its words, each after a blank
-field_word-name : (field : Field) → field_word field ≡ 32 ∷ (field_name field ++ 32 ∷ [])
+field_word-name : (field : SpecField) → field_word field ≡ 32 ∷ (field_name field ++ 32 ∷ [])
 unfolding field_word field_name
 field_word-name SrcMac = refl
 field_word-name DstMac = refl
@@ -67,7 +67,7 @@ field_word-name L4Proto = refl
 field_word-name SrcPort = refl
 field_word-name DstPort = refl
 
-skip_text-words : (flow : Flow) (field : Field) (mask : ℕ) → skip_text flow field mask ≡ blank_words (codes "m" ∷ value_text flow field mask ∷ [])
+skip_text-words : (flow : Flow) (field : SpecField) (mask : ℕ) → skip_text flow field mask ≡ blank_words (codes "m" ∷ value_text flow field mask ∷ [])
 unfolding skip_text
 skip_text-words flow field mask = ap (λ text. codes " m " ++ text) (sym (append-nil (value_text flow field mask)))
 
@@ -75,25 +75,25 @@ choice-words : (none : Bool) (text : List ℕ) (words : List (List ℕ)) → tex
 choice-words true text words same = refl
 choice-words false text words same = same
 
-mask_text-words : (flow : Flow) (field : Field) (mask : ℕ) → mask_text flow field mask ≡ blank_words (mask_words flow field mask)
+mask_text-words : (flow : Flow) (field : SpecField) (mask : ℕ) → mask_text flow field mask ≡ blank_words (mask_words flow field mask)
 unfolding mask_text
 mask_text-words flow field mask = choice-words (eqb mask 0) (skip_text flow field mask) (codes "m" ∷ value_text flow field mask ∷ []) (skip_text-words flow field mask)
 
 between-blanks : (name text : List ℕ) → (32 ∷ (name ++ 32 ∷ [])) ++ text ≡ 32 ∷ (name ++ 32 ∷ text)
 between-blanks name text = ap (λ rest. 32 ∷ rest) (append_assoc name (32 ∷ []) text)
 
-part_text-words : (flow : Flow) (field : Field) (part : Part) → part_text flow field part ≡ blank_words (part_words flow field part)
+part_text-words : (flow : Flow) (field : SpecField) (part : Part) → part_text flow field part ≡ blank_words (part_words flow field part)
 unfolding part_text
 part_text-words flow field part =
     let value = value_text flow field part.value in
     ap (λ word. word ++ (value ++ mask_text flow field part.skip)) (field_word-name field) ∙ (between-blanks (field_name field) (value ++ mask_text flow field part.skip) ∙ ap (λ text. 32 ∷ (field_name field ++ 32 ∷ (value ++ text))) (mask_text-words flow field part.skip))
 
-optional_part_text-words : (flow : Flow) (field : Field) (part : Option Part) → optional_part_text flow field part ≡ blank_words (given_words flow field part)
+optional_part_text-words : (flow : Flow) (field : SpecField) (part : Option Part) → optional_part_text flow field part ≡ blank_words (given_words flow field part)
 optional_part_text-words flow field None = refl
 optional_part_text-words flow field (Some part) = part_text-words flow field part
 
 -- the text of all fields, of what comes after them, and of the line
-field_text-words : (spec : Spec) (fields : List Field) → flat_map (field_text spec) fields ≡ blank_words (field_words spec fields)
+field_text-words : (spec : Spec) (fields : List SpecField) → flat_map (field_text spec) fields ≡ blank_words (field_words spec fields)
 unfolding field_text
 field_text-words spec [] = refl
 field_text-words spec (field ∷ fields) =
@@ -109,9 +109,9 @@ end_text-words (Queue queue) loc =
 options_text-words : (spec : Spec) → options_text spec ≡ blank_words (option_words spec)
 unfolding options_text
 options_text-words spec =
-    let fields = field_words spec (fields_of spec.flow) in
+    let fields = field_words spec (flow_fields spec.flow) in
     let end = end_words spec.action spec.loc in
-    ap (λ text. text ++ (action_words spec.action ++ loc_words spec.loc)) (field_text-words spec (fields_of spec.flow)) ∙ (ap (λ text. blank_words fields ++ text) (end_text-words spec.action spec.loc) ∙ sym (flat_map-append after_blank fields end))
+    ap (λ text. text ++ (action_words spec.action ++ loc_words spec.loc)) (field_text-words spec (flow_fields spec.flow)) ∙ (ap (λ text. blank_words fields ++ text) (end_text-words spec.action spec.loc) ∙ sym (flat_map-append after_blank fields end))
 
 pub spec_text-words : (spec : Spec) → spec_text spec ≡ codes "flow-type" ++ blank_words (flow_word spec.flow ∷ option_words spec)
 unfolding spec_text

@@ -10,9 +10,9 @@ use Rattle.ntuple_text.specs.declared.draft.Awaits.TheVariants.{OptionWord, Valu
 use Rattle.ntuple_text.specs.declared.draft.Draft.{Draft}
 use Rattle.ntuple_text.specs.declared.error.Fault.{Fault}
 use Rattle.ntuple_text.specs.declared.error.Fault.TheVariants.{Word, NotInFlow, Twice}
-use Rattle.ntuple_text.specs.declared.key.Field.{Field}
-use Rattle.ntuple_text.specs.declared.key.Field.TheVariants.{SrcMac, DstMac, EtherType, SrcIp, DstIp}
-use Rattle.ntuple_text.specs.declared.key.Field.TheVariants.{Tos, TrafficClass, L4Proto, SrcPort, DstPort}
+use Rattle.ntuple_text.specs.declared.key.SpecField.{SpecField}
+use Rattle.ntuple_text.specs.declared.key.SpecField.TheVariants.{SrcMac, DstMac, EtherType, SrcIp, DstIp}
+use Rattle.ntuple_text.specs.declared.key.SpecField.TheVariants.{Tos, TrafficClass, L4Proto, SrcPort, DstPort}
 use Rattle.ntuple_text.specs.declared.key.OptionKey.{OptionKey}
 use Rattle.ntuple_text.specs.declared.key.OptionKey.TheVariants as key
 use Rattle.ntuple_text.specs.declared.spec.Flow.{Flow}
@@ -36,7 +36,7 @@ draft_of flow =
     }
 
 -- the part that stands for a field
-abbrev pub part_of : Draft → Field → Option Part
+abbrev pub part_of : Draft → SpecField → Option Part
 part_of draft SrcMac = draft.src
 part_of draft DstMac = draft.dst
 part_of draft EtherType = draft.proto
@@ -49,7 +49,7 @@ part_of draft SrcPort = draft.src_port
 part_of draft DstPort = draft.dst_port
 
 -- with another part for a field
-abbrev pub with_part : Draft → Field → Option Part → Draft
+abbrev pub with_part : Draft → SpecField → Option Part → Draft
 with_part draft SrcMac part = record draft { src = part }
 with_part draft DstMac part = record draft { dst = part }
 with_part draft EtherType part = record draft { proto = part }
@@ -71,9 +71,9 @@ unless_stood draft stood about = if stood then Err Twice else Ok (with_awaits dr
 
 -- the word of an option was read: a field is one of the flow, and no option comes twice; `action` and `queue` are one
 unfoldable pub with_option : Draft → OptionKey → Result Draft Fault
-with_option draft (key.Field field) =
+with_option draft (key.SpecField field) =
     if has_field draft.flow field
-    then unless_stood draft (is_some (part_of draft field)) (key.Field field)
+    then unless_stood draft (is_some (part_of draft field)) (key.SpecField field)
     else Err NotInFlow
 with_option draft key.Action = unless_stood draft (is_some draft.action) key.Action
 with_option draft key.Queue = unless_stood draft (is_some draft.action) key.Queue
@@ -85,7 +85,7 @@ with_option_word draft None = Err Word
 with_option_word draft (Some about) = with_option draft about
 
 -- a field's value was read: all its bits are compared, unless a mask follows
-abbrev pub with_value : Draft → Field → ℕ → Draft
+abbrev pub with_value : Draft → SpecField → ℕ → Draft
 with_value draft field value =
     with_awaits (with_part draft field (Some (record { value = value; skip = 0 }))) (Mark field)
 
@@ -99,7 +99,7 @@ with_loc draft loc = record draft { loc = Some loc; awaits = OptionWord }
 
 -- the value of an option, for so many queue pairs
 unfoldable pub with_value_word : ℕ → Draft → OptionKey → List ℕ → Result Draft Fault
-with_value_word pairs draft (key.Field field) word =
+with_value_word pairs draft (key.SpecField field) word =
     and_then (λ value. Ok (with_value draft field value)) (field_value (form_of draft.flow field) word)
 with_value_word pairs draft key.Action word =
     and_then (λ action. Ok (with_action draft action)) (action_value pairs word)
@@ -112,17 +112,17 @@ abbrev pub with_skip : ℕ → Part → Part
 with_skip mask part = record part { skip = mask }
 
 -- with the mask of a field, after which an option may begin
-abbrev pub with_mask : Draft → Field → ℕ → Draft
+abbrev pub with_mask : Draft → SpecField → ℕ → Draft
 with_mask draft field mask =
     with_awaits (with_part draft field (option_map (with_skip mask) (part_of draft field))) OptionWord
 
 -- the mask of a field, spelled as its value
-unfoldable pub with_mask_word : Draft → Field → List ℕ → Result Draft Fault
+unfoldable pub with_mask_word : Draft → SpecField → List ℕ → Result Draft Fault
 with_mask_word draft field word =
     and_then (λ mask. Ok (with_mask draft field mask)) (field_value (form_of draft.flow field) word)
 
 -- a word after a field's value: `m`, or the next option
-abbrev pub with_mark_word : Draft → Field → List ℕ → Result Draft Fault
+abbrev pub with_mark_word : Draft → SpecField → List ℕ → Result Draft Fault
 with_mark_word draft field word =
     if bytes_eq word (codes "m") then Ok (with_awaits draft (Mask field)) else with_option_word draft (key_of word)
 

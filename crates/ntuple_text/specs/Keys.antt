@@ -4,11 +4,11 @@ use Rattle.std.specs.Prelude.{ℕ, Bool, true, false, if◌then◌else◌, ◌||
 use Rattle.std.specs.Prelude.{List, [], ◌∷◌, codes, Option, Some, option_map}
 use Rattle.std.specs.List.{find}
 use Rattle.std.specs.Str.{bytes_eq}
-use Rattle.ntuple_text.specs.declared.key.Field.{Field}
-use Rattle.ntuple_text.specs.declared.key.Field.TheVariants.{SrcMac, DstMac, EtherType, SrcIp, DstIp}
-use Rattle.ntuple_text.specs.declared.key.Field.TheVariants.{Tos, TrafficClass, L4Proto, SrcPort, DstPort}
-use Rattle.ntuple_text.specs.declared.key.Form.{Form}
-use Rattle.ntuple_text.specs.declared.key.Form.TheVariants.{Mac, Ipv4, Ipv6, Bits8, Bits16}
+use Rattle.ntuple_text.specs.declared.key.SpecField.{SpecField}
+use Rattle.ntuple_text.specs.declared.key.SpecField.TheVariants.{SrcMac, DstMac, EtherType, SrcIp, DstIp}
+use Rattle.ntuple_text.specs.declared.key.SpecField.TheVariants.{Tos, TrafficClass, L4Proto, SrcPort, DstPort}
+use Rattle.ntuple_text.specs.declared.key.FieldForm.{FieldForm}
+use Rattle.ntuple_text.specs.declared.key.FieldForm.TheVariants.{Mac, Ipv4, Ipv6, Bits8, Bits16}
 use Rattle.ntuple_text.specs.declared.key.OptionKey.{OptionKey}
 use Rattle.ntuple_text.specs.declared.key.OptionKey.TheVariants as key
 use Rattle.ntuple_text.specs.declared.spec.Flow.{Flow}
@@ -33,7 +33,7 @@ unfoldable pub flow_of : List ℕ → Option Flow
 flow_of word = find (λ flow. bytes_eq word (flow_word flow)) all_flows
 
 -- the word that names a field
-unfoldable pub field_name : Field → List ℕ
+unfoldable pub field_name : SpecField → List ℕ
 field_name SrcMac = codes "src"
 field_name DstMac = codes "dst"
 field_name EtherType = codes "proto"
@@ -46,12 +46,12 @@ field_name SrcPort = codes "src-port"
 field_name DstPort = codes "dst-port"
 
 -- every field
-abbrev pub all_fields : List Field
+abbrev pub all_fields : List SpecField
 all_fields =
     SrcMac ∷ DstMac ∷ EtherType ∷ SrcIp ∷ DstIp ∷ Tos ∷ TrafficClass ∷ L4Proto ∷ SrcPort ∷ DstPort ∷ []
 
 -- the field that a word names
-unfoldable pub field_of : List ℕ → Option Field
+unfoldable pub field_of : List ℕ → Option SpecField
 field_of word = find (λ field. bytes_eq word (field_name field)) all_fields
 
 -- what the option that a word names is about
@@ -60,7 +60,7 @@ key_of word =
     if bytes_eq word (codes "action") then Some key.Action
     else (if bytes_eq word (codes "queue") then Some key.Queue
     else (if bytes_eq word (codes "loc") then Some key.Loc
-    else option_map (λ field. key.Field field) (field_of word)))
+    else option_map (λ field. key.SpecField field) (field_of word)))
 
 -- a flow of any Ethernet frames
 abbrev pub is_ether : Flow → Bool
@@ -88,7 +88,7 @@ is_any_protocol Ip6 = true
 is_any_protocol flow = false
 
 -- whether the flow has the field
-abbrev pub has_field : Flow → Field → Bool
+abbrev pub has_field : Flow → SpecField → Bool
 has_field flow SrcMac = is_ether flow
 has_field flow DstMac = is_ether flow
 has_field flow EtherType = is_ether flow
@@ -101,7 +101,7 @@ has_field flow SrcPort = not (is_ether flow || is_any_protocol flow)
 has_field flow DstPort = not (is_ether flow || is_any_protocol flow)
 
 -- how the field's value is spelled in the flow, with its range
-abbrev pub form_of : Flow → Field → Form
+abbrev pub form_of : Flow → SpecField → FieldForm
 form_of flow SrcMac = Mac
 form_of flow DstMac = Mac
 form_of flow EtherType = Bits16

@@ -7,11 +7,11 @@ use Rattle.std.specs.List.{flat_map}
 use Rattle.ntuple_text.specs.Keys.{field_name, flow_word, form_of}
 use Rattle.ntuple_text.specs.Pieces.{byte_base, colon, dot, group_base}
 use Rattle.ntuple_text.specs.TableMaps.{TableMap}
-use Rattle.ntuple_text.specs.declared.key.Field.{Field}
-use Rattle.ntuple_text.specs.declared.key.Field.TheVariants.{SrcMac, DstMac, EtherType, SrcIp, DstIp}
-use Rattle.ntuple_text.specs.declared.key.Field.TheVariants.{Tos, TrafficClass, L4Proto, SrcPort, DstPort}
-use Rattle.ntuple_text.specs.declared.key.Form.{Form}
-use Rattle.ntuple_text.specs.declared.key.Form.TheVariants.{Mac, Ipv4, Ipv6, Bits8, Bits16}
+use Rattle.ntuple_text.specs.declared.key.SpecField.{SpecField}
+use Rattle.ntuple_text.specs.declared.key.SpecField.TheVariants.{SrcMac, DstMac, EtherType, SrcIp, DstIp}
+use Rattle.ntuple_text.specs.declared.key.SpecField.TheVariants.{Tos, TrafficClass, L4Proto, SrcPort, DstPort}
+use Rattle.ntuple_text.specs.declared.key.FieldForm.{FieldForm}
+use Rattle.ntuple_text.specs.declared.key.FieldForm.TheVariants.{Mac, Ipv4, Ipv6, Bits8, Bits16}
 use Rattle.ntuple_text.specs.declared.piece.Spelling.{Spelling}
 use Rattle.ntuple_text.specs.declared.piece.Spelling.TheVariants.{MacGroup, Ipv4Byte, Ipv6Group}
 use Rattle.ntuple_text.specs.declared.spec.Flow.{Flow}
@@ -69,7 +69,7 @@ unfoldable pub ipv6_text : ℕ → List ℕ
 ipv6_text address = joined_text Ipv6Group colon (low_digits group_base 7 address)
 
 -- one above the greatest value of a form
-abbrev pub form_range : Form → ℕ
+abbrev pub form_range : FieldForm → ℕ
 form_range Mac = 2 ^ 48
 form_range Ipv4 = 2 ^ 32
 form_range Ipv6 = 2 ^ 128
@@ -77,7 +77,7 @@ form_range Bits8 = 256
 form_range Bits16 = 65536
 
 -- a value in its form
-unfoldable pub form_text : Form → ℕ → List ℕ
+unfoldable pub form_text : FieldForm → ℕ → List ℕ
 form_text Mac value = mac_text value
 form_text Ipv4 value = ipv4_text value
 form_text Ipv6 value = ipv6_text value
@@ -89,7 +89,7 @@ unfoldable pub type_text : ℕ → List ℕ
 type_text value = codes "0x" ++ four_digits value
 
 -- the value of a field
-unfoldable pub value_text : Flow → Field → ℕ → List ℕ
+unfoldable pub value_text : Flow → SpecField → ℕ → List ℕ
 value_text flow SrcMac value = mac_text value
 value_text flow DstMac value = mac_text value
 value_text flow EtherType value = type_text value
@@ -102,21 +102,21 @@ value_text flow SrcPort value = decimal value
 value_text flow DstPort value = decimal value
 
 -- the word of a field, between blanks
-unfoldable pub field_word : Field → List ℕ
+unfoldable pub field_word : SpecField → List ℕ
 field_word field = codes " " ++ (field_name field ++ codes " ")
 
 -- the fields of a flow, in the order in which they are written
-unfoldable pub fields_of : Flow → List Field
-fields_of Ether = SrcMac ∷ DstMac ∷ EtherType ∷ []
-fields_of Ip4 = SrcIp ∷ DstIp ∷ Tos ∷ L4Proto ∷ []
-fields_of Tcp4 = SrcIp ∷ DstIp ∷ Tos ∷ SrcPort ∷ DstPort ∷ []
-fields_of Udp4 = SrcIp ∷ DstIp ∷ Tos ∷ SrcPort ∷ DstPort ∷ []
-fields_of Ip6 = SrcIp ∷ DstIp ∷ TrafficClass ∷ L4Proto ∷ []
-fields_of Tcp6 = SrcIp ∷ DstIp ∷ TrafficClass ∷ SrcPort ∷ DstPort ∷ []
-fields_of Udp6 = SrcIp ∷ DstIp ∷ TrafficClass ∷ SrcPort ∷ DstPort ∷ []
+unfoldable pub flow_fields : Flow → List SpecField
+flow_fields Ether = SrcMac ∷ DstMac ∷ EtherType ∷ []
+flow_fields Ip4 = SrcIp ∷ DstIp ∷ Tos ∷ L4Proto ∷ []
+flow_fields Tcp4 = SrcIp ∷ DstIp ∷ Tos ∷ SrcPort ∷ DstPort ∷ []
+flow_fields Udp4 = SrcIp ∷ DstIp ∷ Tos ∷ SrcPort ∷ DstPort ∷ []
+flow_fields Ip6 = SrcIp ∷ DstIp ∷ TrafficClass ∷ L4Proto ∷ []
+flow_fields Tcp6 = SrcIp ∷ DstIp ∷ TrafficClass ∷ SrcPort ∷ DstPort ∷ []
+flow_fields Udp6 = SrcIp ∷ DstIp ∷ TrafficClass ∷ SrcPort ∷ DstPort ∷ []
 
 -- the part that stands for a field
-abbrev pub spec_part : Spec → Field → Option Part
+abbrev pub spec_part : Spec → SpecField → Option Part
 spec_part spec SrcMac = spec.src
 spec_part spec DstMac = spec.dst
 spec_part spec EtherType = spec.proto
@@ -129,25 +129,25 @@ spec_part spec SrcPort = spec.src_port
 spec_part spec DstPort = spec.dst_port
 
 -- a mask, which is spelled as its value
-unfoldable pub skip_text : Flow → Field → ℕ → List ℕ
+unfoldable pub skip_text : Flow → SpecField → ℕ → List ℕ
 skip_text flow field mask = codes " m " ++ value_text flow field mask
 
 -- the mask of a field, where it skips a bit
-unfoldable pub mask_text : Flow → Field → ℕ → List ℕ
+unfoldable pub mask_text : Flow → SpecField → ℕ → List ℕ
 mask_text flow field mask = if mask == 0 then [] else skip_text flow field mask
 
 -- a field that is given: its word, its value and its mask
-unfoldable pub part_text : Flow → Field → Part → List ℕ
+unfoldable pub part_text : Flow → SpecField → Part → List ℕ
 part_text flow field part =
     field_word field ++ (value_text flow field part.value ++ mask_text flow field part.skip)
 
 -- a field, where it is given
-abbrev pub optional_part_text : Flow → Field → Option Part → List ℕ
+abbrev pub optional_part_text : Flow → SpecField → Option Part → List ℕ
 optional_part_text flow field None = []
 optional_part_text flow field (Some part) = part_text flow field part
 
 -- a field of a spec, where it is given
-unfoldable pub field_text : Spec → Field → List ℕ
+unfoldable pub field_text : Spec → SpecField → List ℕ
 field_text spec field = optional_part_text spec.flow field (spec_part spec field)
 
 -- a queue as an action
@@ -166,7 +166,7 @@ loc_words loc = codes " loc " ++ decimal loc
 -- the words of a line past its flow
 unfoldable pub options_text : Spec → List ℕ
 options_text spec =
-    flat_map (field_text spec) (fields_of spec.flow) ++ (action_words spec.action ++ loc_words spec.loc)
+    flat_map (field_text spec) (flow_fields spec.flow) ++ (action_words spec.action ++ loc_words spec.loc)
 
 -- the canonical line, without its line feed
 unfoldable pub spec_text : Spec → List ℕ

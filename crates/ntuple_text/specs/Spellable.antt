@@ -4,8 +4,8 @@ use Rattle.std.specs.Prelude.{List, length, slice_index_or, Option, Some, None, 
 use Rattle.ntuple_text.specs.Keys.{is_ether, is_ip6}
 use Rattle.ntuple_text.specs.SpecTexts.{form_range}
 use Rattle.ntuple_text.specs.TableMaps.{location_count, pair_limit}
-use Rattle.ntuple_text.specs.declared.key.Form.{Form}
-use Rattle.ntuple_text.specs.declared.key.Form.TheVariants.{Mac, Ipv4, Ipv6, Bits8, Bits16}
+use Rattle.ntuple_text.specs.declared.key.FieldForm.{FieldForm}
+use Rattle.ntuple_text.specs.declared.key.FieldForm.TheVariants.{Mac, Ipv4, Ipv6, Bits8, Bits16}
 use Rattle.ntuple_text.specs.declared.spec.Flow.{Flow}
 use Rattle.ntuple_text.specs.declared.spec.Flow.TheVariants.{Ether, Ip4, Ip6}
 use Rattle.ntuple_text.specs.declared.spec.Part.{Part}
@@ -14,30 +14,30 @@ use Rattle.ntuple_text.specs.declared.spec.TableDo.{TableDo}
 use Rattle.ntuple_text.specs.declared.spec.TableDo.TheVariants.{Drop, Queue}
 
 -- how a flow's addresses are spelled
-abbrev pub address_form : Flow → Form
+abbrev pub address_form : Flow → FieldForm
 address_form flow = if is_ether flow then Mac else (if is_ip6 flow then Ipv6 else Ipv4)
 
 -- how its Ethernet type, or its protocol, is spelled, where the flow has one of these
-abbrev pub proto_form : Flow → Option Form
+abbrev pub proto_form : Flow → Option FieldForm
 proto_form Ether = Some Bits16
 proto_form Ip4 = Some Bits8
 proto_form Ip6 = Some Bits8
 proto_form flow = None
 
 -- how its type of service, or its traffic class, is spelled, where it has one of these
-abbrev pub class_form : Flow → Option Form
+abbrev pub class_form : Flow → Option FieldForm
 class_form Ether = None
 class_form flow = Some Bits8
 
 -- how its ports are spelled, where it has ports
-abbrev pub port_form : Flow → Option Form
+abbrev pub port_form : Flow → Option FieldForm
 port_form Ether = None
 port_form Ip4 = None
 port_form Ip6 = None
 port_form flow = Some Bits16
 
 -- the value and the mask of a part are spelled in the form; no part stands where the flow has no field
-abbrev pub IsSpelledIn : Option Form → Option Part → Type 0
+abbrev pub IsSpelledIn : Option FieldForm → Option Part → Type 0
 IsSpelledIn form None = ⊤
 IsSpelledIn None (Some part) = ⊥
 IsSpelledIn (Some form) (Some part) = (part.value < form_range form) × (part.skip < form_range form)

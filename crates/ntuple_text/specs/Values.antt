@@ -8,8 +8,8 @@ use Rattle.ntuple_text.specs.Steps.{and_then}
 use Rattle.ntuple_text.specs.TableMaps.{location_count}
 use Rattle.ntuple_text.specs.declared.error.Fault.{Fault}
 use Rattle.ntuple_text.specs.declared.error.Fault.TheVariants.{Address, Queue as WrongQueue, Loc}
-use Rattle.ntuple_text.specs.declared.key.Form.{Form}
-use Rattle.ntuple_text.specs.declared.key.Form.TheVariants.{Mac, Ipv4, Ipv6, Bits8, Bits16}
+use Rattle.ntuple_text.specs.declared.key.FieldForm.{FieldForm}
+use Rattle.ntuple_text.specs.declared.key.FieldForm.TheVariants.{Mac, Ipv4, Ipv6, Bits8, Bits16}
 use Rattle.ntuple_text.specs.declared.spec.TableDo.{TableDo}
 use Rattle.ntuple_text.specs.declared.spec.TableDo.TheVariants.{Drop, Queue}
 
@@ -22,7 +22,7 @@ abbrev pub most_16_bits : ℕ
 most_16_bits = 65535
 
 -- the value of a field
-unfoldable pub field_value : Form → List ℕ → Result ℕ Fault
+unfoldable pub field_value : FieldForm → List ℕ → Result ℕ Fault
 field_value Mac word = ok_or (mac_of word) Address
 field_value Ipv4 word = ok_or (ipv4_of word) Address
 field_value Ipv6 word = ok_or (ipv6_of word) Address

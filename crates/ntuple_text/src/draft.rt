@@ -8,7 +8,7 @@ ghost use Rattle.ntuple_text.specs.Keys.{key_of};
 ghost use Rattle.ntuple_text.specs.TableLines.{spec_of_options};
 
 use crate::error::Fault;
-use crate::key::{Field, OptionKey, key_of};
+use crate::key::{OptionKey, SpecField, key_of};
 use crate::spec::{Flow, Part, Spec, TableDo};
 use crate::value::{action_value, field_value, location_value, queue_value};
 use vnff_base::first_word;
@@ -21,9 +21,9 @@ pub(crate) enum Awaits {
     /// The value of an option.
     Value(OptionKey),
     /// `m` before the field's mask, or the word of an option.
-    Mark(Field),
+    Mark(SpecField),
     /// The field's mask.
-    Mask(Field),
+    Mask(SpecField),
 }
 
 /// The options of a line so far.
@@ -103,7 +103,7 @@ impl Draft {
         }
     }
 
-    fn with_mark_word(self, field: Field, word: &[u8]) -> Result<Draft, Fault>
+    fn with_mark_word(self, field: SpecField, word: &[u8]) -> Result<Draft, Fault>
         ensures { result ≡ with_mark_word self field word.now }
     {
         if word == b"m".as_slice() {
@@ -127,7 +127,7 @@ impl Draft {
         ensures { result ≡ with_option self key }
     {
         match key {
-            OptionKey::Field(field) => {
+            OptionKey::SpecField(field) => {
                 if !self.flow.has_field(field) {
                     return Err(Fault::NotInFlow);
                 }
@@ -153,7 +153,7 @@ impl Draft {
         ensures { result ≡ with_value_word pairs self key word.now }
     {
         match key {
-            OptionKey::Field(field) => {
+            OptionKey::SpecField(field) => {
                 let value = field_value(word, self.flow.form(field))?;
                 let part = Part { value, skip: 0 };
                 Ok(
@@ -172,7 +172,7 @@ impl Draft {
     }
 
     #[tactic(auto, unfolding(crate::specs::Drafts::with_mask_word))]
-    fn with_mask_word(self, field: Field, word: &[u8]) -> Result<Draft, Fault>
+    fn with_mask_word(self, field: SpecField, word: &[u8]) -> Result<Draft, Fault>
         ensures { result ≡ with_mask_word self field word.now }
     {
         let mask = field_value(word, self.flow.form(field))?;
@@ -197,38 +197,38 @@ impl Draft {
     }
 
     // The part that stands for a field.
-    fn part_of(self, field: Field) -> Option<Part>
+    fn part_of(self, field: SpecField) -> Option<Part>
         ensures { result ≡ part_of self field }
     {
         match field {
-            Field::SrcMac | Field::SrcIp => self.src,
-            Field::DstMac | Field::DstIp => self.dst,
-            Field::EtherType | Field::L4Proto => self.proto,
-            Field::Tos | Field::TrafficClass => self.class,
-            Field::SrcPort => self.src_port,
-            Field::DstPort => self.dst_port,
+            SpecField::SrcMac | SpecField::SrcIp => self.src,
+            SpecField::DstMac | SpecField::DstIp => self.dst,
+            SpecField::EtherType | SpecField::L4Proto => self.proto,
+            SpecField::Tos | SpecField::TrafficClass => self.class,
+            SpecField::SrcPort => self.src_port,
+            SpecField::DstPort => self.dst_port,
         }
     }
 
-    fn with_part(self, field: Field, part: Option<Part>) -> Draft
+    fn with_part(self, field: SpecField, part: Option<Part>) -> Draft
         ensures { result ≡ with_part self field part }
     {
         match field {
-            Field::SrcMac | Field::SrcIp => Draft { src: part, ..self },
-            Field::DstMac | Field::DstIp => Draft { dst: part, ..self },
-            Field::EtherType | Field::L4Proto => Draft {
+            SpecField::SrcMac | SpecField::SrcIp => Draft { src: part, ..self },
+            SpecField::DstMac | SpecField::DstIp => Draft { dst: part, ..self },
+            SpecField::EtherType | SpecField::L4Proto => Draft {
                 proto: part,
                 ..self
             },
-            Field::Tos | Field::TrafficClass => Draft {
+            SpecField::Tos | SpecField::TrafficClass => Draft {
                 class: part,
                 ..self
             },
-            Field::SrcPort => Draft {
+            SpecField::SrcPort => Draft {
                 src_port: part,
                 ..self
             },
-            Field::DstPort => Draft {
+            SpecField::DstPort => Draft {
                 dst_port: part,
                 ..self
             },

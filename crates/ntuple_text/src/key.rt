@@ -6,7 +6,7 @@ use crate::spec::Flow;
 
 /// A field of a frame, by the word that names it.
 #[derive(Clone, Copy, Debug, PartialEq, Eq)]
-pub enum Field {
+pub enum SpecField {
     /// `src`
     SrcMac,
     /// `dst`
@@ -33,7 +33,7 @@ pub enum Field {
 #[derive(Clone, Copy, Debug, PartialEq, Eq)]
 pub enum OptionKey {
     /// A field of the frame.
-    Field(Field),
+    SpecField(SpecField),
     /// `action`
     Action,
     /// `queue`
@@ -44,7 +44,7 @@ pub enum OptionKey {
 
 /// How a field's value is spelled, with its range.
 #[derive(Clone, Copy, Debug, PartialEq, Eq)]
-pub enum Form {
+pub enum FieldForm {
     /// A MAC address.
     Mac,
     /// An IPv4 address.
@@ -94,7 +94,7 @@ pub(crate) fn key_of(word: &[u8]) -> Option<OptionKey>
         Some(OptionKey::Loc)
     } else {
         match field_of(word) {
-            Some(field) => Some(OptionKey::Field(field)),
+            Some(field) => Some(OptionKey::SpecField(field)),
             None => None,
         }
     }
@@ -102,29 +102,29 @@ pub(crate) fn key_of(word: &[u8]) -> Option<OptionKey>
 
 /// The field that a word names.
 #[tactic(auto, unfolding(crate::specs::Keys::field_name, crate::specs::Keys::field_of))]
-fn field_of(word: &[u8]) -> Option<Field>
+fn field_of(word: &[u8]) -> Option<SpecField>
     ensures { result ≡ field_of word.now }
 {
     if word == b"src".as_slice() {
-        Some(Field::SrcMac)
+        Some(SpecField::SrcMac)
     } else if word == b"dst".as_slice() {
-        Some(Field::DstMac)
+        Some(SpecField::DstMac)
     } else if word == b"proto".as_slice() {
-        Some(Field::EtherType)
+        Some(SpecField::EtherType)
     } else if word == b"src-ip".as_slice() {
-        Some(Field::SrcIp)
+        Some(SpecField::SrcIp)
     } else if word == b"dst-ip".as_slice() {
-        Some(Field::DstIp)
+        Some(SpecField::DstIp)
     } else if word == b"tos".as_slice() {
-        Some(Field::Tos)
+        Some(SpecField::Tos)
     } else if word == b"tclass".as_slice() {
-        Some(Field::TrafficClass)
+        Some(SpecField::TrafficClass)
     } else if word == b"l4proto".as_slice() {
-        Some(Field::L4Proto)
+        Some(SpecField::L4Proto)
     } else if word == b"src-port".as_slice() {
-        Some(Field::SrcPort)
+        Some(SpecField::SrcPort)
     } else if word == b"dst-port".as_slice() {
-        Some(Field::DstPort)
+        Some(SpecField::DstPort)
     } else {
         None
     }
@@ -132,33 +132,33 @@ fn field_of(word: &[u8]) -> Option<Field>
 
 impl Flow {
     /// Whether the flow has the field.
-    pub(crate) fn has_field(self, field: Field) -> bool
+    pub(crate) fn has_field(self, field: SpecField) -> bool
         ensures { result ≡ has_field self field }
     {
         match field {
-            Field::SrcMac | Field::DstMac | Field::EtherType => self == Flow::Ether,
-            Field::SrcIp | Field::DstIp => self != Flow::Ether,
-            Field::Tos => matches!(self, Flow::Ip4 | Flow::Tcp4 | Flow::Udp4),
-            Field::TrafficClass => matches!(self, Flow::Ip6 | Flow::Tcp6 | Flow::Udp6),
-            Field::L4Proto => matches!(self, Flow::Ip4 | Flow::Ip6),
-            Field::SrcPort | Field::DstPort => {
+            SpecField::SrcMac | SpecField::DstMac | SpecField::EtherType => self == Flow::Ether,
+            SpecField::SrcIp | SpecField::DstIp => self != Flow::Ether,
+            SpecField::Tos => matches!(self, Flow::Ip4 | Flow::Tcp4 | Flow::Udp4),
+            SpecField::TrafficClass => matches!(self, Flow::Ip6 | Flow::Tcp6 | Flow::Udp6),
+            SpecField::L4Proto => matches!(self, Flow::Ip4 | Flow::Ip6),
+            SpecField::SrcPort | SpecField::DstPort => {
                 matches!(self, Flow::Tcp4 | Flow::Udp4 | Flow::Tcp6 | Flow::Udp6)
             }
         }
     }
 
     /// How the field's value is spelled in this flow.
-    pub(crate) fn form(self, field: Field) -> Form
+    pub(crate) fn form(self, field: SpecField) -> FieldForm
         ensures { result ≡ form_of self field }
     {
         match field {
-            Field::SrcMac | Field::DstMac => Form::Mac,
-            Field::SrcIp | Field::DstIp => match self {
-                Flow::Ip6 | Flow::Tcp6 | Flow::Udp6 => Form::Ipv6,
-                _ => Form::Ipv4,
+            SpecField::SrcMac | SpecField::DstMac => FieldForm::Mac,
+            SpecField::SrcIp | SpecField::DstIp => match self {
+                Flow::Ip6 | Flow::Tcp6 | Flow::Udp6 => FieldForm::Ipv6,
+                _ => FieldForm::Ipv4,
             },
-            Field::Tos | Field::TrafficClass | Field::L4Proto => Form::Bits8,
-            Field::EtherType | Field::SrcPort | Field::DstPort => Form::Bits16,
+            SpecField::Tos | SpecField::TrafficClass | SpecField::L4Proto => FieldForm::Bits8,
+            SpecField::EtherType | SpecField::SrcPort | SpecField::DstPort => FieldForm::Bits16,
         }
     }
 }

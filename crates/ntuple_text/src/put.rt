@@ -4,7 +4,7 @@ ghost use Rattle.std.specs.List.{flat_map};
 ghost use Rattle.vnff_base.specs.Lines.{word_lines, words_of};
 ghost use Rattle.vnff_base.specs.Outputs.{Writes};
 ghost use Rattle.ntuple_text.specs.Keys.{flow_word};
-ghost use Rattle.ntuple_text.specs.SpecTexts.{action_words, field_text, field_word, fields_of, line_feed};
+ghost use Rattle.ntuple_text.specs.SpecTexts.{action_words, field_text, field_word, flow_fields, line_feed};
 ghost use Rattle.ntuple_text.specs.SpecTexts.{loc_words, longest_line, mask_text, optional_part_text, options_text};
 ghost use Rattle.ntuple_text.specs.SpecTexts.{part_text, queue_words, skip_text, slot_text, spec_part, spec_text};
 ghost use Rattle.ntuple_text.specs.SpecTexts.{table_lines, value_text};
@@ -12,7 +12,7 @@ ghost use Rattle.ntuple_text.specs.Spellable.{IsSpellable};
 ghost use Rattle.ntuple_text.specs.TableLines.{after_line, table_of};
 ghost use Rattle.ntuple_text.specs.TableMaps.{TableMap, location_count, pair_limit, with_spec};
 
-use crate::key::Field;
+use crate::key::SpecField;
 use crate::put_piece::{put_form, put_mac, put_number, put_type};
 use crate::spec::{Flow, Part, Spec, TableDo};
 use crate::table::Table;
@@ -97,12 +97,12 @@ fn put_options<O: Out>(out: &mut O, spec: &Spec) -> Result<(), Failed>
 
 fn put_fields<O: Out>(out: &mut O, spec: &Spec) -> Result<(), Failed>
     ensures { Writes (O.state out.old) (O.state out.new)
-        (flat_map (field_text spec.now) (fields_of spec.now.flow)) result }
+        (flat_map (field_text spec.now) (flow_fields spec.now.flow)) result }
 {
-    put_each(out, spec, fields_of(spec.flow))
+    put_each(out, spec, flow_fields(spec.flow))
 }
 
-fn put_each<O: Out>(out: &mut O, spec: &Spec, fields: &[Field]) -> Result<(), Failed>
+fn put_each<O: Out>(out: &mut O, spec: &Spec, fields: &[SpecField]) -> Result<(), Failed>
     ensures { Writes (O.state out.old) (O.state out.new) (flat_map (field_text spec.now) fields.now) result }
 {
     for field in fields {
@@ -112,38 +112,43 @@ fn put_each<O: Out>(out: &mut O, spec: &Spec, fields: &[Field]) -> Result<(), Fa
 }
 
 // The fields of a flow, in the order in which they are written.
-#[tactic(auto, unfolding(crate::specs::SpecTexts::fields_of))]
-fn fields_of(flow: Flow) -> &'static [Field]
-    ensures { result.now ≡ fields_of flow }
+#[tactic(auto, unfolding(crate::specs::SpecTexts::flow_fields))]
+fn flow_fields(flow: Flow) -> &'static [SpecField]
+    ensures { result.now ≡ flow_fields flow }
 {
     match flow {
-        Flow::Ether => &[Field::SrcMac, Field::DstMac, Field::EtherType],
-        Flow::Ip4 => &[Field::SrcIp, Field::DstIp, Field::Tos, Field::L4Proto],
+        Flow::Ether => &[SpecField::SrcMac, SpecField::DstMac, SpecField::EtherType],
+        Flow::Ip4 => &[
+            SpecField::SrcIp,
+            SpecField::DstIp,
+            SpecField::Tos,
+            SpecField::L4Proto,
+        ],
         Flow::Ip6 => &[
-            Field::SrcIp,
-            Field::DstIp,
-            Field::TrafficClass,
-            Field::L4Proto,
+            SpecField::SrcIp,
+            SpecField::DstIp,
+            SpecField::TrafficClass,
+            SpecField::L4Proto,
         ],
         Flow::Tcp4 | Flow::Udp4 => &[
-            Field::SrcIp,
-            Field::DstIp,
-            Field::Tos,
-            Field::SrcPort,
-            Field::DstPort,
+            SpecField::SrcIp,
+            SpecField::DstIp,
+            SpecField::Tos,
+            SpecField::SrcPort,
+            SpecField::DstPort,
         ],
         Flow::Tcp6 | Flow::Udp6 => &[
-            Field::SrcIp,
-            Field::DstIp,
-            Field::TrafficClass,
-            Field::SrcPort,
-            Field::DstPort,
+            SpecField::SrcIp,
+            SpecField::DstIp,
+            SpecField::TrafficClass,
+            SpecField::SrcPort,
+            SpecField::DstPort,
         ],
     }
 }
 
 #[tactic(auto, unfolding(crate::specs::SpecTexts::field_text))]
-fn put_field<O: Out>(out: &mut O, spec: &Spec, field: Field) -> Result<(), Failed>
+fn put_field<O: Out>(out: &mut O, spec: &Spec, field: SpecField) -> Result<(), Failed>
     ensures { Writes (O.state out.old) (O.state out.new) (field_text spec.now field) result }
 {
     put_optional_part(out, spec.flow, field, spec_part(spec, field))
@@ -152,7 +157,7 @@ fn put_field<O: Out>(out: &mut O, spec: &Spec, field: Field) -> Result<(), Faile
 fn put_optional_part<O: Out>(
     out: &mut O,
     flow: Flow,
-    field: Field,
+    field: SpecField,
     part: Option<Part>,
 ) -> Result<(), Failed>
     ensures { Writes (O.state out.old) (O.state out.new) (optional_part_text flow field part) result }
@@ -164,21 +169,21 @@ fn put_optional_part<O: Out>(
 }
 
 // The part that stands for a field.
-fn spec_part(spec: &Spec, field: Field) -> Option<Part>
+fn spec_part(spec: &Spec, field: SpecField) -> Option<Part>
     ensures { result ≡ spec_part spec.now field }
 {
     match field {
-        Field::SrcMac | Field::SrcIp => spec.src,
-        Field::DstMac | Field::DstIp => spec.dst,
-        Field::EtherType | Field::L4Proto => spec.proto,
-        Field::Tos | Field::TrafficClass => spec.class,
-        Field::SrcPort => spec.src_port,
-        Field::DstPort => spec.dst_port,
+        SpecField::SrcMac | SpecField::SrcIp => spec.src,
+        SpecField::DstMac | SpecField::DstIp => spec.dst,
+        SpecField::EtherType | SpecField::L4Proto => spec.proto,
+        SpecField::Tos | SpecField::TrafficClass => spec.class,
+        SpecField::SrcPort => spec.src_port,
+        SpecField::DstPort => spec.dst_port,
     }
 }
 
 #[tactic(auto, unfolding(crate::specs::SpecTexts::part_text))]
-fn put_part<O: Out>(out: &mut O, flow: Flow, field: Field, part: Part) -> Result<(), Failed>
+fn put_part<O: Out>(out: &mut O, flow: Flow, field: SpecField, part: Part) -> Result<(), Failed>
     ensures { Writes (O.state out.old) (O.state out.new) (part_text flow field part) result }
 {
     put_field_word(out, field)?;
@@ -187,25 +192,25 @@ fn put_part<O: Out>(out: &mut O, flow: Flow, field: Field, part: Part) -> Result
 }
 
 #[tactic(auto, unfolding(crate::specs::Keys::field_name, crate::specs::SpecTexts::field_word))]
-fn put_field_word<O: Out>(out: &mut O, field: Field) -> Result<(), Failed>
+fn put_field_word<O: Out>(out: &mut O, field: SpecField) -> Result<(), Failed>
     ensures { Writes (O.state out.old) (O.state out.new) (field_word field) result }
 {
     match field {
-        Field::SrcMac => out.put(b" src "),
-        Field::DstMac => out.put(b" dst "),
-        Field::EtherType => out.put(b" proto "),
-        Field::SrcIp => out.put(b" src-ip "),
-        Field::DstIp => out.put(b" dst-ip "),
-        Field::Tos => out.put(b" tos "),
-        Field::TrafficClass => out.put(b" tclass "),
-        Field::L4Proto => out.put(b" l4proto "),
-        Field::SrcPort => out.put(b" src-port "),
-        Field::DstPort => out.put(b" dst-port "),
+        SpecField::SrcMac => out.put(b" src "),
+        SpecField::DstMac => out.put(b" dst "),
+        SpecField::EtherType => out.put(b" proto "),
+        SpecField::SrcIp => out.put(b" src-ip "),
+        SpecField::DstIp => out.put(b" dst-ip "),
+        SpecField::Tos => out.put(b" tos "),
+        SpecField::TrafficClass => out.put(b" tclass "),
+        SpecField::L4Proto => out.put(b" l4proto "),
+        SpecField::SrcPort => out.put(b" src-port "),
+        SpecField::DstPort => out.put(b" dst-port "),
     }
 }
 
 #[tactic(auto, unfolding(crate::specs::SpecTexts::mask_text))]
-fn put_mask<O: Out>(out: &mut O, flow: Flow, field: Field, mask: u128) -> Result<(), Failed>
+fn put_mask<O: Out>(out: &mut O, flow: Flow, field: SpecField, mask: u128) -> Result<(), Failed>
     ensures { Writes (O.state out.old) (O.state out.new) (mask_text flow field mask) result }
 {
     if mask == 0 {
@@ -216,7 +221,7 @@ fn put_mask<O: Out>(out: &mut O, flow: Flow, field: Field, mask: u128) -> Result
 }
 
 #[tactic(auto, unfolding(crate::specs::SpecTexts::skip_text))]
-fn put_skip<O: Out>(out: &mut O, flow: Flow, field: Field, mask: u128) -> Result<(), Failed>
+fn put_skip<O: Out>(out: &mut O, flow: Flow, field: SpecField, mask: u128) -> Result<(), Failed>
     ensures { Writes (O.state out.old) (O.state out.new) (skip_text flow field mask) result }
 {
     out.put(b" m ")?;
@@ -224,13 +229,13 @@ fn put_skip<O: Out>(out: &mut O, flow: Flow, field: Field, mask: u128) -> Result
 }
 
 #[tactic(auto, unfolding(crate::specs::SpecTexts::value_text))]
-fn put_value<O: Out>(out: &mut O, flow: Flow, field: Field, value: u128) -> Result<(), Failed>
+fn put_value<O: Out>(out: &mut O, flow: Flow, field: SpecField, value: u128) -> Result<(), Failed>
     ensures { Writes (O.state out.old) (O.state out.new) (value_text flow field value) result }
 {
     match field {
-        Field::SrcMac | Field::DstMac => put_mac(out, value),
-        Field::EtherType => put_type(out, value),
-        Field::SrcIp | Field::DstIp => put_form(out, flow.form(field), value),
+        SpecField::SrcMac | SpecField::DstMac => put_mac(out, value),
+        SpecField::EtherType => put_type(out, value),
+        SpecField::SrcIp | SpecField::DstIp => put_form(out, flow.form(field), value),
         _ => put_number(out, value),
     }
 }

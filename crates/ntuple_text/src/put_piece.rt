@@ -7,7 +7,7 @@ ghost use Rattle.ntuple_text.specs.SpecTexts.{form_text, four_digits, ipv4_text,
 ghost use Rattle.ntuple_text.specs.SpecTexts.{leading_zeros, low_digits, mac_text};
 ghost use Rattle.ntuple_text.specs.SpecTexts.{next_piece, piece_text, pieces_text, type_text};
 
-use crate::key::Form;
+use crate::key::FieldForm;
 use crate::piece::{BYTE_BASE, GROUP_BASE, Groups, Spelling};
 use arrayvec::ArrayVec;
 use itoa::Buffer;
@@ -15,14 +15,14 @@ use vnff_base::{Failed, Out, hex_digit};
 
 /// Writes a value in its form.
 #[tactic(auto, unfolding(crate::specs::SpecTexts::form_text))]
-pub(crate) fn put_form<O: Out>(out: &mut O, form: Form, value: u128) -> Result<(), Failed>
+pub(crate) fn put_form<O: Out>(out: &mut O, form: FieldForm, value: u128) -> Result<(), Failed>
     ensures { Writes (O.state out.old) (O.state out.new) (form_text form value) result }
 {
     match form {
-        Form::Mac => put_mac(out, value),
-        Form::Ipv4 => put_ipv4(out, value),
-        Form::Ipv6 => put_ipv6(out, value),
-        Form::Bits8 | Form::Bits16 => put_number(out, value),
+        FieldForm::Mac => put_mac(out, value),
+        FieldForm::Ipv4 => put_ipv4(out, value),
+        FieldForm::Ipv6 => put_ipv6(out, value),
+        FieldForm::Bits8 | FieldForm::Bits16 => put_number(out, value),
     }
 }
 

@@ -6,7 +6,7 @@ ghost use Rattle.ntuple_text.specs.Values.{action_value, field_value, location_v
 
 use crate::address::{ipv4_of, ipv6_of, mac_of};
 use crate::error::Fault;
-use crate::key::Form;
+use crate::key::FieldForm;
 use crate::numeral::{numeral_of, numeral_up_to};
 use crate::spec::TableDo;
 
@@ -20,15 +20,15 @@ const MOST_16_BITS: u64 = 0xffff;
 
 /// The value of a field, or of its mask, in the field's form.
 #[tactic(auto, unfolding(crate::specs::Values::field_value))]
-pub(crate) fn field_value(word: &[u8], form: Form) -> Result<u128, Fault>
+pub(crate) fn field_value(word: &[u8], form: FieldForm) -> Result<u128, Fault>
     ensures { result ≡ field_value form word.now }
 {
     match form {
-        Form::Mac => mac_of(word).ok_or(Fault::Address),
-        Form::Ipv4 => ipv4_of(word).ok_or(Fault::Address),
-        Form::Ipv6 => ipv6_of(word).ok_or(Fault::Address),
-        Form::Bits8 => wide_number(word, MOST_8_BITS),
-        Form::Bits16 => wide_number(word, MOST_16_BITS),
+        FieldForm::Mac => mac_of(word).ok_or(Fault::Address),
+        FieldForm::Ipv4 => ipv4_of(word).ok_or(Fault::Address),
+        FieldForm::Ipv6 => ipv6_of(word).ok_or(Fault::Address),
+        FieldForm::Bits8 => wide_number(word, MOST_8_BITS),
+        FieldForm::Bits16 => wide_number(word, MOST_16_BITS),
     }
 }
 

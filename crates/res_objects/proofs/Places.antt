@@ -14,7 +14,7 @@ use Rattle.std.proofs.lemmas.List.Sorted.{IsNonDecreasingBy-from_default}
 use Rattle.std.proofs.lemmas.Map.Keys.{below_from_sorted}
 use Rattle.std.proofs.lemmas.Map.Entries.{length-keys_of}
 use Rattle.std.proofs.lemmas.Map.Views.{length-le_from_below}
-use Rattle.res_objects.specs.Places.{IsIndex, IsAt, IsGapFor, id_at}
+use Rattle.res_objects.specs.Places.{IsIdIndex, IsAt, IsGapFor, id_at}
 
 -- how two ids compare
 pub cmp_lesser : (a b : ℕ) → a < b → nat_cmp a b ≡ Less
@@ -164,15 +164,15 @@ sorted_remove (e ∷ es) id sorted = elim (compared id e.0) [
 ]
 
 -- the invariant of an index stays
-pub IsIndex-none : IsIndex []
+pub IsIdIndex-none : IsIdIndex []
 unfolding IsStrictlySortedBy
-IsIndex-none = record { ordered = tt; small = tt }
+IsIdIndex-none = record { ordered = tt; small = tt }
 
-pub IsIndex-insert_entry : (es : List (ℕ × ℕ)) (id slot : ℕ) → id < 2 ^ 32 → IsIndex es → IsIndex (insert_entry nat_cmp es id slot)
-IsIndex-insert_entry es id slot fits index = record { ordered = sorted_insert es id slot index.ordered; small = ids_insert (λ x. x < 2 ^ 32) es id slot fits index.small }
+pub IsIdIndex-insert_entry : (es : List (ℕ × ℕ)) (id slot : ℕ) → id < 2 ^ 32 → IsIdIndex es → IsIdIndex (insert_entry nat_cmp es id slot)
+IsIdIndex-insert_entry es id slot fits index = record { ordered = sorted_insert es id slot index.ordered; small = ids_insert (λ x. x < 2 ^ 32) es id slot fits index.small }
 
-pub IsIndex-remove_entry : (es : List (ℕ × ℕ)) (id : ℕ) → IsIndex es → IsIndex (remove_entry (is_at (nat_cmp id)) es)
-IsIndex-remove_entry es id index = record { ordered = sorted_remove es id index.ordered; small = ids_remove (λ x. x < 2 ^ 32) es id index.small }
+pub IsIdIndex-remove_entry : (es : List (ℕ × ℕ)) (id : ℕ) → IsIdIndex es → IsIdIndex (remove_entry (is_at (nat_cmp id)) es)
+IsIdIndex-remove_entry es id index = record { ordered = sorted_remove es id index.ordered; small = ids_remove (λ x. x < 2 ^ 32) es id index.small }
 
 -- how many entries there are after an edit
 pub length-insert_entry : {X : Type 0} (es : List (ℕ × X)) (id : ℕ) (x : X) → lookup (is_at (nat_cmp id)) es ≡ None → length (insert_entry nat_cmp es id x) ≡ length es + 1
@@ -201,8 +201,8 @@ remove_entry-absent (e ∷ es) id absent = elim (compared id e.0) [
 ]
 
 -- there are 2^32 ids, so fewer are held where one isn't
-pub spare_id : (es : List (ℕ × ℕ)) (id : ℕ) → id < 2 ^ 32 → IsIndex es → lookup (is_at (nat_cmp id)) es ≡ None → length es < 2 ^ 32
+pub spare_id : (es : List (ℕ × ℕ)) (id : ℕ) → id < 2 ^ 32 → IsIdIndex es → lookup (is_at (nat_cmp id)) es ≡ None → length es < 2 ^ 32
 spare_id es id fits index absent =
-    let more = IsIndex-insert_entry es id 0 fits index in
+    let more = IsIdIndex-insert_entry es id 0 fits index in
     let most = length-le_from_below (2 ^ 32) (keys_of (insert_entry nat_cmp es id 0)) more.ordered (All-from_recursion (λ x. x < 2 ^ 32) _ more.small) in
     omega (arith, most, length-keys_of (insert_entry nat_cmp es id 0), length-insert_entry es id 0 absent)

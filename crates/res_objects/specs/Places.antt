@@ -6,7 +6,7 @@ use Rattle.std.specs.Map.{keys_of}
 use Rattle.std.specs.Ordering.{nat_cmp}
 
 -- the invariant of an index: its ids rise strictly, and each is one of 32 bits
-pub record IsIndex (index : List (ℕ × ℕ)) : Type 0 where
+pub record IsIdIndex (index : List (ℕ × ℕ)) : Type 0 where
   pub ordered : IsStrictlySortedBy nat_cmp (keys_of index)
   pub small : AllByRecursion (λ id. id < 2 ^ 32) (keys_of index)
 

@@ -19,13 +19,13 @@ pub(crate) struct IdIndex {
 impl Model for IdIndex {
     ghost use Rattle.std.specs.Prelude.{vec_capacity};
     ghost use Rattle.res_objects.specs.Linked.{SlotIndex};
-    ghost use Rattle.res_objects.specs.Places.{IsIndex};
+    ghost use Rattle.res_objects.specs.Places.{IsIdIndex};
 
     ghost Value = { SlotIndex };
 
     ghost view = { λ i. record { slots = i.entries.items; room = vec_capacity i.entries } };
 
-    ghost invariant = { λ i. IsIndex i.entries.items };
+    ghost invariant = { λ i. IsIdIndex i.entries.items };
 }
 
 impl IdIndex {

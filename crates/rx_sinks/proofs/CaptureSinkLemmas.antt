@@ -8,11 +8,11 @@ use Rattle.std.proofs.lemmas.Grind.{flat_map-append}
 use Rattle.capture.specs.Captures.{IsCapture, capture_of, header_text, record_text, capture_text}
 use Rattle.capture.proofs.CaptureLaws.{is-capture_of, capture-written}
 use Rattle.std.proofs.lemmas.Bool.{false≢true}
-use Rattle.vnff_base.specs.Counts.{count_after}
+use Rattle.vnff_base.specs.Counts.{count_with}
 use Rattle.vnff_base.specs.Outputs.{OutputState, told_after, Stopped, Writes}
 use Rattle.capture.specs.Sizes.{longest_frame}
 use Rattle.rx_sinks.specs.Sinks.{SinkState, Faulted, Delivers, Finishes}
-use Rattle.rx_sinks.specs.CaptureSinks.{CaptureSinkState, capture_state, frames_of, first_text, IsWritten, IsSound, TellsCapture, TellsWritten}
+use Rattle.rx_sinks.specs.CaptureSinks.{CaptureSinkState, capture_state, frames_of, first_text, IsWritten, HasWhatItWrites, TellsCapture, TellsWritten}
 
 -- the longest frame
 abbrev IsShort : List ℕ → Type 0
@@ -97,7 +97,7 @@ written_cases false (Some bytes) none = inl (none, ap frames_of none)
 written_cases true (Some bytes) written = inr (tells_capture (Some bytes) written)
 
 -- At any moment a sink of which no put failed tells the frames that it wrote.
-pub tells_written : (sink : CaptureSinkState) → IsSound sink → sink.broken ≡ false → TellsWritten sink
+pub tells_written : (sink : CaptureSinkState) → HasWhatItWrites sink → sink.broken ≡ false → TellsWritten sink
 tells_written sink sound whole = rw whole (written_cases sink.begun sink.output.told (sound whole))
 
 -- a sink after a text was put, or stopped
@@ -106,7 +106,7 @@ after_put sink output broken = record { output = output; begun = true; broken = 
 
 -- what a sink shows with these frames and this count of the output
 abbrev shown : Option (List (List ℕ)) → ℕ → ℕ → SinkState
-shown frames refused faults = record { frames = frames; faults = count_after faults refused; ends = None; gives = false }
+shown frames refused faults = record { frames = frames; faults = count_with faults refused; ends = None; gives = false }
 
 -- A put that failed is a failure of the sink.
 put_failed : (old : CaptureSinkState) (output : OutputState) (text : List ℕ) → Stopped old.output output text → Faulted (capture_state old) (capture_state (after_put old output true))
@@ -116,7 +116,7 @@ put_failed old output text stopped = record {
 }
 
 -- What a sink shows after a frame's record was put, or stopped.
-pub capture_delivers : {A E : Type 0} (old : CaptureSinkState) (output : OutputState) (broken : Bool) (frame : List ℕ) (result : Result A E) → IsSound old → old.broken ≡ false → length frame ≤ longest_frame → broken ≡ is_err result → Writes old.output output (first_text old.begun ++ record_text frame) result → Delivers (capture_state old) (capture_state (after_put old output broken)) frame result
+pub capture_delivers : {A E : Type 0} (old : CaptureSinkState) (output : OutputState) (broken : Bool) (frame : List ℕ) (result : Result A E) → HasWhatItWrites old → old.broken ≡ false → length frame ≤ longest_frame → broken ≡ is_err result → Writes old.output output (first_text old.begun ++ record_text frame) result → Delivers (capture_state old) (capture_state (after_put old output broken)) frame result
 capture_delivers old output broken frame (Ok x) sound whole within is wrote =
     let told = told_frames (after_put old output broken) is ∙ ap (option_and_then frames_of) wrote.told ∙ frames_of-more old.begun old.output.told frame (sound whole) within ∙ sym (ap (option_map (λ fs. fs ++ frame ∷ [])) (told_frames old whole)) in
     ap (λ frames. shown frames old.refused output.faults) told ∙ ap (shown (option_map (λ fs. fs ++ frame ∷ []) (capture_state old).frames) old.refused) wrote.faults
@@ -124,7 +124,7 @@ capture_delivers old output broken frame (Err e) sound whole within is stopped =
     subst (λ b. Faulted (capture_state old) (capture_state (after_put old output b))) (sym is) (put_failed old output (first_text old.begun ++ record_text frame) stopped)
 
 -- What a sink shows after the header was put, or stopped.
-pub capture_finishes : {A E : Type 0} (old : CaptureSinkState) (output : OutputState) (broken : Bool) (result : Result A E) → IsSound old → old.broken ≡ false → broken ≡ is_err result → Writes old.output output (first_text old.begun) result → Finishes (capture_state old) (capture_state (after_put old output broken)) result
+pub capture_finishes : {A E : Type 0} (old : CaptureSinkState) (output : OutputState) (broken : Bool) (result : Result A E) → HasWhatItWrites old → old.broken ≡ false → broken ≡ is_err result → Writes old.output output (first_text old.begun) result → Finishes (capture_state old) (capture_state (after_put old output broken)) result
 capture_finishes old output broken (Ok x) sound whole is wrote =
     let told = told_frames (after_put old output broken) is ∙ ap (option_and_then frames_of) wrote.told ∙ frames_of-begun old.begun old.output.told (sound whole) ∙ sym (told_frames old whole) in
     ap (λ frames. shown frames old.refused output.faults) told ∙ ap (shown (capture_state old).frames old.refused) wrote.faults
@@ -132,19 +132,19 @@ capture_finishes old output broken (Err e) sound whole is stopped =
     subst (λ b. Faulted (capture_state old) (capture_state (after_put old output b))) (sym is) (put_failed old output (first_text old.begun) stopped)
 
 -- What was put of a frame keeps the sink sound.
-pub sound_delivered : {A E : Type 0} (old : CaptureSinkState) (output : OutputState) (broken : Bool) (frame : List ℕ) (result : Result A E) → IsSound old → old.broken ≡ false → length frame ≤ longest_frame → broken ≡ is_err result → Writes old.output output (first_text old.begun ++ record_text frame) result → IsSound (after_put old output broken)
+pub sound_delivered : {A E : Type 0} (old : CaptureSinkState) (output : OutputState) (broken : Bool) (frame : List ℕ) (result : Result A E) → HasWhatItWrites old → old.broken ≡ false → length frame ≤ longest_frame → broken ≡ is_err result → Writes old.output output (first_text old.begun ++ record_text frame) result → HasWhatItWrites (after_put old output broken)
 sound_delivered old output broken frame (Ok x) sound whole within is wrote =
     λ _. subst (λ told. IfSome told (IsWritten true)) (sym wrote.told) (written-more old.begun old.output.told frame (sound whole) within)
 sound_delivered old output broken frame (Err e) sound whole within is stopped = λ unbroken. absurd (false≢true (sym unbroken ∙ is))
 
 -- What was put of the header keeps the sink sound.
-pub sound_finished : {A E : Type 0} (old : CaptureSinkState) (output : OutputState) (broken : Bool) (result : Result A E) → IsSound old → old.broken ≡ false → broken ≡ is_err result → Writes old.output output (first_text old.begun) result → IsSound (after_put old output broken)
+pub sound_finished : {A E : Type 0} (old : CaptureSinkState) (output : OutputState) (broken : Bool) (result : Result A E) → HasWhatItWrites old → old.broken ≡ false → broken ≡ is_err result → Writes old.output output (first_text old.begun) result → HasWhatItWrites (after_put old output broken)
 sound_finished old output broken (Ok x) sound whole is wrote =
     λ _. subst (λ told. IfSome told (IsWritten true)) (sym wrote.told) (written-begun old.begun old.output.told (sound whole))
 sound_finished old output broken (Err e) sound whole is stopped = λ unbroken. absurd (false≢true (sym unbroken ∙ is))
 
 -- A sink that was put to and isn't broken tells a capture of its frames.
-pub sound_tells : {A E : Type 0} (old : CaptureSinkState) (output : OutputState) (broken : Bool) (result : Result A E) → broken ≡ is_err result → IsSound (after_put old output broken) → OnOk result (TellsCapture (after_put old output broken))
+pub sound_tells : {A E : Type 0} (old : CaptureSinkState) (output : OutputState) (broken : Bool) (result : Result A E) → broken ≡ is_err result → HasWhatItWrites (after_put old output broken) → OnOk result (TellsCapture (after_put old output broken))
 sound_tells old output broken (Ok x) is sound =
     subst (λ frames. IfSome output.told (λ bytes. IsSomeAnd frames (IsCapture bytes))) (sym (told_frames (after_put old output broken) is)) (tells_capture output.told (sound is))
 sound_tells old output broken (Err e) is sound = tt

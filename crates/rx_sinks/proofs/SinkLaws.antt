@@ -1,6 +1,6 @@
 -- What follows from several calls of a sink, one after another.
 use Rattle.std.proofs.Common.{◌≡◌, ℕ, ◌≤◌, List, [], ◌++◌, Option, None, Some, option_map, IfSome, refl, ap, sym, ◌∙◌, subst, append_assoc, append-nil, arith, ⊎_elim}
-use Rattle.vnff_base.specs.Counts.{count_after, Rose}
+use Rattle.vnff_base.specs.Counts.{count_with, Rose}
 use Rattle.rx_sinks.specs.Sinks.{SinkState, appended, finished, Follows, IsFinished}
 
 -- frames with more behind them, and then more again
@@ -56,7 +56,7 @@ follows-appended {a = a} {b = b} more follows =
 
 pub follows-finished : {a b : SinkState} → Follows a b → Follows (finished a) (finished b)
 follows-finished follows =
-    record { frames = follows.frames; faults = follows.faults; ends = ap (option_map (λ n. count_after n 1)) follows.ends; gives = follows.gives }
+    record { frames = follows.frames; faults = follows.faults; ends = ap (option_map (λ n. count_with n 1)) follows.ends; gives = follows.gives }
 
 -- A sink that was finished follows the one before, finished.
 pub finished_follows : (a b : SinkState) → IsFinished a b → Follows (finished a) b

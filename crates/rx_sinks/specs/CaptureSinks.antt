@@ -1,7 +1,7 @@
 -- A sink that writes a capture to an output, as contracts see it.
 use Rattle.std.specs.Prelude.{◌≡◌, ℕ, ◌≤◌, Bool, true, false, if◌then◌else◌, List, [], ◌∷◌, length, All, Option, Some, None, option_and_then, IfSome, IsSomeAnd, Result, is_err, IsErr, ◌⊎◌}
 use Rattle.std.specs.Result.{result_ok}
-use Rattle.vnff_base.specs.Counts.{count_after}
+use Rattle.vnff_base.specs.Counts.{count_with}
 use Rattle.vnff_base.specs.Outputs.{OutputState, Writes}
 use Rattle.capture.specs.Captures.{IsCapture, capture_of, header_text, capture_text}
 use Rattle.capture.specs.Sizes.{longest_frame}
@@ -24,7 +24,7 @@ frames_of (byte ∷ bytes) = result_ok (capture_of (byte ∷ bytes))
 abbrev pub capture_state : CaptureSinkState → SinkState
 capture_state sink = record {
   frames = if sink.broken then None else option_and_then frames_of sink.output.told;
-  faults = count_after sink.output.faults sink.refused;
+  faults = count_with sink.output.faults sink.refused;
   ends = None;
   gives = false;
 }
@@ -40,8 +40,8 @@ IsWritten true bytes =
     (frames : List (List ℕ)) × (bytes ≡ capture_text frames) × All (λ frame. length frame ≤ longest_frame) frames
 
 -- Where no put failed and the output tells its bytes, they are what such a sink writes.
-abbrev pub IsSound : CaptureSinkState → Type 0
-IsSound sink = sink.broken ≡ false → IfSome sink.output.told (IsWritten sink.begun)
+abbrev pub HasWhatItWrites : CaptureSinkState → Type 0
+HasWhatItWrites sink = sink.broken ≡ false → IfSome sink.output.told (IsWritten sink.begun)
 
 -- Where the output tells its bytes, they are a capture of the frames that the sink tells.
 abbrev pub TellsCapture : CaptureSinkState → Type 0
@@ -55,7 +55,7 @@ TellsWritten sink =
 -- What a call did that was to put a text. A sink of which a put failed puts nothing more, and counts the call as
 -- failed; of any other a front of the text is put where the output fails, which breaks the sink, and otherwise the
 -- text.
-pub record Puts {A E : Type 0} (old new : CaptureSinkState) (text : List ℕ) (result : Result A E) : Type 0 where
-  pub refuses : old.broken ≡ true → IsErr result × (new ≡ record old { refused = count_after old.refused 1 })
+pub record PutsText {A E : Type 0} (old new : CaptureSinkState) (text : List ℕ) (result : Result A E) : Type 0 where
+  pub refuses : old.broken ≡ true → IsErr result × (new ≡ record old { refused = count_with old.refused 1 })
   pub writes : old.broken ≡ false → Writes old.output new.output text result
   pub breaks : old.broken ≡ false → new ≡ record old { output = new.output; begun = true; broken = is_err result }

@@ -1,6 +1,6 @@
 -- What contracts see of a sink of received frames, and what each of its calls does to it. This project's own.
 use Rattle.std.specs.Prelude.{◌≡◌, ℕ, ◌≤◌, Bool, if◌then◌else◌, List, [], ◌∷◌, ◌++◌, slice_get, Option, Some, None, option_map, option_and_then, IfSome, ◌⊎◌, Result, MatchResult}
-use Rattle.vnff_base.specs.Counts.{count_after, Rose}
+use Rattle.vnff_base.specs.Counts.{count_with, Rose}
 
 -- the frames delivered so far, where the sink tells them; how often it failed; how often it was finished, where it
 -- tells that; and whether it gives its frames to who asks for one
@@ -20,7 +20,7 @@ delivered sink frame = appended sink (frame ∷ [])
 
 -- a sink that was finished once more
 abbrev pub finished : SinkState → SinkState
-finished sink = record sink { ends = option_map (λ n. count_after n 1) sink.ends }
+finished sink = record sink { ends = option_map (λ n. count_with n 1) sink.ends }
 
 -- the frame at a place that a sink gives
 abbrev pub frame_at : SinkState → ℕ → Option (List ℕ)

@@ -2,10 +2,10 @@
 
 ghost use Rattle.std.specs.Prelude.{◌≡◌, ◌≤◌, ◌++◌, [], length, false, IfSome, OnOk};
 ghost use Rattle.capture.specs.Captures.{record_text};
-ghost use Rattle.vnff_base.specs.Counts.{count_after};
+ghost use Rattle.vnff_base.specs.Counts.{count_with};
 ghost use Rattle.vnff_base.specs.Outputs.{Writes};
 ghost use Rattle.capture.specs.Sizes.{longest_frame};
-ghost use Rattle.rx_sinks.specs.CaptureSinks.{capture_state, first_text, TellsCapture, TellsWritten, Puts};
+ghost use Rattle.rx_sinks.specs.CaptureSinks.{capture_state, first_text, TellsCapture, TellsWritten, PutsText};
 ghost use Rattle.rx_sinks.specs.Sinks.{Delivers, Finishes};
 
 use crate::rx_sink::RxSink;
@@ -24,7 +24,7 @@ pub struct CaptureSink<O: Out> {
 }
 
 impl<O: Out> Model for CaptureSink<O> {
-    ghost use Rattle.rx_sinks.specs.CaptureSinks.{CaptureSinkState, IsSound};
+    ghost use Rattle.rx_sinks.specs.CaptureSinks.{CaptureSinkState, HasWhatItWrites};
 
     ghost Value = { CaptureSinkState };
 
@@ -35,7 +35,7 @@ impl<O: Out> Model for CaptureSink<O> {
       refused = s.refused;
     } };
 
-    ghost invariant = { λ s. IsSound (record {
+    ghost invariant = { λ s. HasWhatItWrites (record {
       output = O.state s.out;
       begun = s.begun;
       broken = s.broken;
@@ -74,7 +74,7 @@ impl<O: Out> CaptureSink<O> {
 
     /// Counts a call of a broken sink.
     fn refuse(&mut self) -> Failed
-        ensures counted { self.new ≡ record self.old { refused = count_after self.old.refused 1 } }
+        ensures counted { self.new ≡ record self.old { refused = count_with self.old.refused 1 } }
         ensures grew { self.old.refused ≤ self.new.refused }
     {
         self.refused = self.refused.saturating_add(1);
@@ -89,7 +89,7 @@ impl<O: Out + Drop> RxSink for CaptureSink<O> {
     fn deliver(&mut self, frame: &[u8]) -> Result<(), Failed>
         requires { length frame.now ≤ longest_frame }
         ensures delivers { Delivers (capture_state self.old) (capture_state self.new) frame.now result }
-        ensures puts { Puts self.old self.new (first_text self.old.begun ++ record_text frame.now) result }
+        ensures puts { PutsText self.old self.new (first_text self.old.begun ++ record_text frame.now) result }
         ensures capture { OnOk result (TellsCapture self.new) }
     {
         if self.broken {
@@ -104,7 +104,7 @@ impl<O: Out + Drop> RxSink for CaptureSink<O> {
     /// Writes the capture's header where there was no frame.
     fn finish(&mut self) -> Result<(), Failed>
         ensures finishes { Finishes (capture_state self.old) (capture_state self.new) result }
-        ensures puts { Puts self.old self.new (first_text self.old.begun) result }
+        ensures puts { PutsText self.old self.new (first_text self.old.begun) result }
         ensures capture { OnOk result (TellsCapture self.new) }
     {
         if self.broken {

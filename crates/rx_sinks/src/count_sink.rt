@@ -1,8 +1,7 @@
 //! A sink that counts frames and keeps none.
 
-ghost use Rattle.std.specs.Prelude.{◌≡◌, ◌↔◌, ◌≤◌, length, IsTrue, IsSome, IsNone, IfSome, IsOk};
-ghost use Rattle.std.specs.Option.{option_copied};
-ghost use Rattle.vnff_base.specs.Counts.{count_after};
+ghost use Rattle.std.specs.Prelude.{◌≡◌, IsOk};
+ghost use Rattle.vnff_base.specs.Counts.{count_with};
 ghost use Rattle.rx_sinks.specs.CountSinks.{count_state};
 ghost use Rattle.rx_sinks.specs.Sinks.{Delivers, Finishes};
 
@@ -47,7 +46,7 @@ impl RxSink for CountSink {
     /// Counts the frame.
     fn deliver(&mut self, _frame: &[u8]) -> Result<(), Failed>
         ensures delivers { Delivers (count_state self.old) (count_state self.new) _frame.now result }
-        ensures counted { self.new ≡ record self.old { count = count_after self.old.count 1 } }
+        ensures counted { self.new ≡ record self.old { count = count_with self.old.count 1 } }
         ensures ok { IsOk result }
     {
         self.count = self.count.saturating_add(1);
@@ -57,7 +56,7 @@ impl RxSink for CountSink {
     /// Counts the finish.
     fn finish(&mut self) -> Result<(), Failed>
         ensures finishes { Finishes (count_state self.old) (count_state self.new) result }
-        ensures counted { self.new ≡ record self.old { ends = count_after self.old.ends 1 } }
+        ensures counted { self.new ≡ record self.old { ends = count_with self.old.ends 1 } }
         ensures ok { IsOk result }
     {
         self.ends = self.ends.saturating_add(1);

@@ -1,8 +1,7 @@
 //! A sink in memory, with room for so many frames and bytes, that fails where it is told to.
 
 ghost use Rattle.std.specs.Prelude.{◌≡◌, ◌↔◌, ◌⊎◌, ◌+◌, ◌<◌, ◌≤◌, [], ◌∷◌, ◌++◌, length, IfOk, OnOk, OnErr, IsErr, IsTrue, Contains};
-ghost use Rattle.std.specs.Option.{option_copied};
-ghost use Rattle.vnff_base.specs.Counts.{count_after};
+ghost use Rattle.vnff_base.specs.Counts.{count_with};
 ghost use Rattle.rx_sinks.specs.MemSinks.{mem_state, byte_count, IsPastRoom};
 ghost use Rattle.rx_sinks.specs.Sinks.{Delivers, Finishes};
 
@@ -86,7 +85,7 @@ impl MemSink {
     /// Counts a call, and says whether it is to fail.
     fn is_to_fail(&mut self) -> bool
         ensures answer { IsTrue result ↔ Contains self.old.failing self.old.calls }
-        ensures counted { self.new ≡ record self.old { calls = count_after self.old.calls 1 } }
+        ensures counted { self.new ≡ record self.old { calls = count_with self.old.calls 1 } }
     {
         let call = self.calls;
         self.calls = call.saturating_add(1);
@@ -105,7 +104,7 @@ impl MemSink {
 
     /// Counts a failure.
     fn fail(&mut self) -> Failed
-        ensures counted { self.new ≡ record self.old { faults = count_after self.old.faults 1 } }
+        ensures counted { self.new ≡ record self.old { faults = count_with self.old.faults 1 } }
         ensures grew { self.old.faults ≤ self.new.faults }
     {
         self.faults = self.faults.saturating_add(1);
@@ -133,12 +132,12 @@ impl RxSink for MemSink {
         ensures fails { IsErr result
             ↔ (Contains self.old.failing self.old.calls ⊎ IsPastRoom self.old frame.now) }
         ensures err { OnErr result (self.new ≡ record self.old {
-          calls = count_after self.old.calls 1;
-          faults = count_after self.old.faults 1;
+          calls = count_with self.old.calls 1;
+          faults = count_with self.old.faults 1;
         }) }
         ensures ok { OnOk result (self.new ≡ record self.old {
           frames = self.old.frames ++ frame.now ∷ [];
-          calls = count_after self.old.calls 1;
+          calls = count_with self.old.calls 1;
         }) }
     {
         if self.is_to_fail() || !self.has_room(frame) {
@@ -154,13 +153,13 @@ impl RxSink for MemSink {
         // It fails at the calls named for it, and at no other.
         ensures fails { IsErr result ↔ Contains self.old.failing self.old.calls }
         ensures err { OnErr result (self.new ≡ record self.old {
-          calls = count_after self.old.calls 1;
-          faults = count_after self.old.faults 1;
-          ends = count_after self.old.ends 1;
+          calls = count_with self.old.calls 1;
+          faults = count_with self.old.faults 1;
+          ends = count_with self.old.ends 1;
         }) }
         ensures ok { OnOk result (self.new ≡ record self.old {
-          calls = count_after self.old.calls 1;
-          ends = count_after self.old.ends 1;
+          calls = count_with self.old.calls 1;
+          ends = count_with self.old.ends 1;
         }) }
     {
         self.ends = self.ends.saturating_add(1);

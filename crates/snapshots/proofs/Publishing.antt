@@ -6,7 +6,7 @@ use Rattle.ff_headers.specs.declared.limits.Limits.{Limits}
 use Rattle.ff_headers.specs.declared.change.Change.{Change}
 use Rattle.matcher.specs.Tables.{TableState, no_changes, applied}
 use Rattle.snapshots.specs.Lists.{ToldList, with_more}
-use Rattle.snapshots.specs.Copying.{with_entry}
+use Rattle.snapshots.specs.Copying.{with_logged}
 use Rattle.snapshots.specs.Seats.{copy_of, IsSame, IsShared, Shows, MayShow}
 use Rattle.snapshots.specs.declared.copied.Copied.{Copied}
 use Rattle.snapshots.specs.declared.copied.Entry.{Entry}
@@ -15,7 +15,7 @@ use Rattle.snapshots.proofs.Seating.{shows}
 
 -- a copy that stands for a list stands for the longer list after one more change
 made_stands : (limits : Limits) (told : ToldList) (change : Change)
-    → with_entry (copy_of limits told) (Made change (with_more told change)) ≡ copy_of limits (with_more told change)
+    → with_logged (copy_of limits told) (Made change (with_more told change)) ≡ copy_of limits (with_more told change)
 made_stands limits told change =
     ap (λ (t : TableState). copied_with t (with_more told change)) (sym (fold-append applied (no_changes limits) told.list (change ∷ [])))
   where
@@ -23,17 +23,17 @@ made_stands limits told change =
     copied_with t told = record { tables = t; trail = told }
 
 pub made_is : (limits : Limits) (told trail : ToldList) (change : Change) (x : Copied) → x ≡ copy_of limits told
-    → trail ≡ with_more told change → with_entry x (Made change trail) ≡ copy_of limits trail
+    → trail ≡ with_more told change → with_logged x (Made change trail) ≡ copy_of limits trail
 made_is limits told trail change x is more =
-    subst (λ t. with_entry x (Made change t) ≡ copy_of limits t) (sym more)
-    (subst (λ y. with_entry y (Made change (with_more told change)) ≡ copy_of limits (with_more told change)) (sym is)
+    subst (λ t. with_logged x (Made change t) ≡ copy_of limits t) (sym more)
+    (subst (λ y. with_logged y (Made change (with_more told change)) ≡ copy_of limits (with_more told change)) (sym is)
     (made_stands limits told change))
 
 -- what is shown next, where one change waited
 pub next_made : (x next : Copied) (change : Change) (trail : ToldList) (waits : List Entry) → MayShow x change trail
-    → waits ≡ Made change trail ∷ [] → next ≡ fold with_entry x waits → next ≡ copy_of x.tables.limits trail
+    → waits ≡ Made change trail ∷ [] → next ≡ fold with_logged x waits → next ≡ copy_of x.tables.limits trail
 next_made x next change trail waits may one is =
-    is ∙ (ap (fold with_entry x) one ∙ made_is x.tables.limits x.trail trail change x may.stands may.longer)
+    is ∙ (ap (fold with_logged x) one ∙ made_is x.tables.limits x.trail trail change x may.stands may.longer)
 
 limits_stay : (tables : TableState) (list : List Change) → (fold applied tables list).limits ≡ tables.limits
 limits_stay tables [] = refl
@@ -61,18 +61,18 @@ same_tables x change trail y may is = record {
 
 -- a publish of one change keeps the rule of the seats
 pub publishes : (seat : ℕ) (v : Option Copied) (x next : Copied) (change : Change) (trail : ToldList) (waits : List Entry)
-    → MayShow x change trail → waits ≡ Made change trail ∷ [] → next ≡ fold with_entry x waits
+    → MayShow x change trail → waits ≡ Made change trail ∷ [] → next ≡ fold with_logged x waits
     → TurnsAt IsShared seat v x next Shows
 publishes seat v x next change trail waits may one is =
     let shown = next_made x next change trail waits may one is in
     shows seat v x next (stands_itself x.tables.limits trail next shown) (same_tables x change trail next may shown)
 
 -- a blank entry shows the same
-pub next_blank : (x next : Copied) (waits : List Entry) → waits ≡ Blank ∷ [] → next ≡ fold with_entry x waits → next ≡ x
-next_blank x next waits one is = is ∙ ap (fold with_entry x) one
+pub next_blank : (x next : Copied) (waits : List Entry) → waits ≡ Blank ∷ [] → next ≡ fold with_logged x waits → next ≡ x
+next_blank x next waits one is = is ∙ ap (fold with_logged x) one
 
 pub publishes_blank : (seat : ℕ) (v : Option Copied) (x next : Copied) (waits : List Entry)
-    → x ≡ copy_of x.tables.limits x.trail → waits ≡ Blank ∷ [] → next ≡ fold with_entry x waits
+    → x ≡ copy_of x.tables.limits x.trail → waits ≡ Blank ∷ [] → next ≡ fold with_logged x waits
     → TurnsAt IsShared seat v x next Shows
 publishes_blank seat v x next waits stands one is =
     let same : next ≡ x = next_blank x next waits one is in
@@ -89,7 +89,7 @@ may_show limits told trail change x is more = record {
 
 -- what is shown, where the limits are known
 pub shows_more : (limits : Limits) (told trail : ToldList) (change : Change) (x next : Copied) (waits : List Entry)
-    → x ≡ copy_of limits told → MayShow x change trail → waits ≡ Made change trail ∷ [] → next ≡ fold with_entry x waits
+    → x ≡ copy_of limits told → MayShow x change trail → waits ≡ Made change trail ∷ [] → next ≡ fold with_logged x waits
     → next ≡ copy_of limits trail
 shows_more limits told trail change x next waits stands may one is =
     next_made x next change trail waits may one is ∙ ap (λ l. copy_of l trail) (limits_are limits told x stands)

@@ -5,9 +5,9 @@ use Rattle.snapshots.specs.declared.copied.Entry.{Entry}
 use Rattle.snapshots.specs.declared.copied.Entry.TheVariants.{Blank, Made}
 
 -- a blank entry leaves the copy; a change is made to the tables, which then stand for the longer list
-abbrev pub with_entry : Copied → Entry → Copied
-with_entry copied Blank = copied
-with_entry copied (Made change trail) = record { tables = applied copied.tables change; trail = trail }
+abbrev pub with_logged : Copied → Entry → Copied
+with_logged copied Blank = copied
+with_logged copied (Made change trail) = record { tables = applied copied.tables change; trail = trail }
 
 -- the entry is of a change
 abbrev pub HasChange : Entry → Type 0

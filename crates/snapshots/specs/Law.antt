@@ -10,8 +10,8 @@ pub record IsKept (cells : List Cell) (list : List Change) : Type 0 where
   pub closes_last : ClosesLast list
 
 -- the word that is the number of changes
-abbrev pub head_of : Book → Named
-head_of b = record { tracked = true; key = 0; book = b }
+abbrev pub count_word : Book → Named
+count_word b = record { tracked = true; key = 0; book = b }
 
 -- where the number was the one that was expected, the change was added to all that had been seen
 abbrev pub Adds : Step Change → View Change ℕ → ℕ → View Change ℕ → Type 0

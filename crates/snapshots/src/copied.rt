@@ -1,7 +1,5 @@
 //! One of the two copies: tables, and the list of changes that they stand for.
 
-ghost use Rattle.std.specs.Prelude.{◌≡◌};
-
 use crate::trail::Trail;
 use ff_headers::Change;
 use left_right::Absorb;
@@ -26,17 +24,17 @@ pub(crate) enum Entry {
 impl Absorb<Entry> for Copied {
     type State = Copied;
 
-    ghost use Rattle.snapshots.specs.Copying.{with_entry};
+    ghost use Rattle.snapshots.specs.Copying.{with_logged};
 
     ghost state = { λ copied. copied };
 
-    ghost applied = { with_entry };
+    ghost applied = { with_logged };
 
     ghost never_fails = { Unit {0} };
 
     fn absorb_first(&mut self, operation: &Entry, _other: &Copied) -> Result<(), AllocError> {
         if let Entry::Made(change, trail) = operation {
-            self.tables.apply(change.copy());
+            self.tables.apply_copy(change);
             self.trail = trail.again();
         }
         Ok(())

@@ -9,7 +9,7 @@ use std::snapshot::Snapshot;
 /// How the floors came about.
 #[cycle(floors)]
 #[derive(Drop)]
-pub(crate) enum Steps {
+pub(crate) enum FloorSteps {
     First,
     Only(Snapshot<Trail>),
     More(Snapshot<Floors>, Snapshot<Trail>),
@@ -19,7 +19,7 @@ pub(crate) enum Steps {
 #[cycle(floors)]
 #[derive(Drop)]
 pub(crate) struct Floors {
-    steps: Steps,
+    steps: FloorSteps,
 }
 
 impl Model for Floors {
@@ -45,7 +45,7 @@ impl Floors {
         ensures { result ≡ [] ∷ [] }
     {
         Floors {
-            steps: Steps::First,
+            steps: FloorSteps::First,
         }
     }
 
@@ -54,7 +54,7 @@ impl Floors {
         ensures { result ≡ trail.now.list ∷ [] }
     {
         Floors {
-            steps: Steps::Only(Snapshot::of(trail)),
+            steps: FloorSteps::Only(Snapshot::of(trail)),
         }
     }
 
@@ -63,7 +63,7 @@ impl Floors {
         ensures { result ≡ self.now ++ trail.now.list ∷ [] }
     {
         Floors {
-            steps: Steps::More(Snapshot::of(self), Snapshot::of(trail)),
+            steps: FloorSteps::More(Snapshot::of(self), Snapshot::of(trail)),
         }
     }
 }

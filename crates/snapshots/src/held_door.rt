@@ -1,6 +1,6 @@
 //! A door that is held shut for a while, for tests.
 
-ghost use Rattle.std.specs.Prelude.{◌≡◌, ℕ, ◌+◌, ◌<◌, ◌≤◌, ◌++◌, ◌∷◌, [], MatchResult, IsErr};
+ghost use Rattle.std.specs.Prelude.{◌≡◌, ◌+◌, ◌<◌, ◌≤◌, MatchResult, IsErr};
 ghost use Rattle.vnff_base.specs.Counts.{Rose};
 ghost use Rattle.snapshots.specs.Reads.{IsRead};
 

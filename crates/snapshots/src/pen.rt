@@ -19,13 +19,13 @@ pub(crate) struct Pen {
 impl Model for Pen {
     ghost use Rattle.std.specs.Prelude.{◌≡◌};
     ghost use Rattle.snapshots.specs.Lists.{ToldList};
-    ghost use Rattle.snapshots.specs.Law.{head_of};
+    ghost use Rattle.snapshots.specs.Law.{count_word};
 
     ghost Value = { ToldList };
 
     ghost view = { λ p. p.trail };
 
-    ghost invariant = { λ p. p.head ≡ head_of p.trail.identity };
+    ghost invariant = { λ p. p.head ≡ count_word p.trail.identity };
 }
 
 impl Pen {

@@ -2,7 +2,7 @@
 
 ghost use Rattle.std.specs.Prelude.{◌≡◌, IfSome, true, false};
 ghost use mathlib.Core.List.{IsPrefix};
-ghost use Rattle.snapshots.specs.Law.{head_of};
+ghost use Rattle.snapshots.specs.Law.{count_word};
 ghost use Rattle.snapshots.specs.Lists.{ClosesLast, is_open, with_more};
 
 use crate::law::{Add, Law, Nothing};
@@ -55,7 +55,7 @@ impl Trail {
     /// Logs a change in the book of this head, behind the list, and gives the longer list. None where the book has gone
     /// on behind the list, or 2^64 - 1 changes were logged.
     pub(crate) fn log(&self, head: &Word<Change, u64, Law>, change: &Change) -> Option<Trail>
-        requires head { head.now ≡ head_of self.now.identity }
+        requires head { head.now ≡ count_word self.now.identity }
         requires open { is_open self.now.list ≡ true }
         ensures { IfSome result (λ trail. trail ≡ with_more self.now change.now) }
     {

@@ -11,7 +11,7 @@ use Rattle.split_queue.specs.Chains.{room_of, bytes_in, PieceLiesIn, AreApart}
 use Rattle.split_queue.specs.Setup.{setup_fault}
 use Rattle.split_queue.specs.declared.chain.Piece.{Piece}
 use Rattle.guest_mem.specs.Memory.{bytes_at}
-use Rattle.steer.specs.BenchPlaces.{bench_bytes, bench_place, bench_size, command_addr, reply_addr, most_command, most_room, command_step, room_step, pieces_of, command_pieces, room_pieces, chain_pieces}
+use Rattle.steer.specs.BenchPlaces.{bench_bytes, bench_place, bench_size, command_addr, reply_addr, most_command, most_room, command_step, room_step, cut_pieces, command_pieces, room_pieces, chain_pieces}
 use Rattle.steer.proofs.PieceLemmas.{length-pieces_from, room_of-pieces_from, pieces_from-within, bytes_in-pieces_from, pieces_from-apart}
 
 -- the bench's ring may lie at its place
@@ -33,21 +33,21 @@ module _ (addr len step : ℕ) (some : 0 < step) where
   enough : len ≤ count * step
   enough = (div_ceil_times len step some).0
 
-  pub length-pieces_of : length (pieces_of addr len step) ≡ count
-  length-pieces_of = length-pieces_from addr len step count
+  pub length-cut_pieces : length (cut_pieces addr len step) ≡ count
+  length-cut_pieces = length-pieces_from addr len step count
 
-  pub room_of-pieces_of : room_of (pieces_of addr len step) ≡ len
-  room_of-pieces_of = room_of-pieces_from addr len step count enough
+  pub room_of-cut_pieces : room_of (cut_pieces addr len step) ≡ len
+  room_of-cut_pieces = room_of-pieces_from addr len step count enough
 
-  pub bytes_in-pieces_of : (mem : List ℕ) → bytes_in mem (pieces_of addr len step) ≡ bytes_at mem addr len
-  bytes_in-pieces_of mem = bytes_in-pieces_from mem addr len step count enough
+  pub bytes_in-cut_pieces : (mem : List ℕ) → bytes_in mem (cut_pieces addr len step) ≡ bytes_at mem addr len
+  bytes_in-cut_pieces mem = bytes_in-pieces_from mem addr len step count enough
 
-  pub pieces_of-between : (high : ℕ) → addr + len ≤ high → All (LiesBetween addr high) (pieces_of addr len step)
-  pieces_of-between high inside =
+  pub cut_pieces-between : (high : ℕ) → addr + len ≤ high → All (LiesBetween addr high) (cut_pieces addr len step)
+  cut_pieces-between high inside =
       pieces_from-within (LiesBetween addr high) addr high (λ p from to. record { from = from; to = to }) addr len step count (omega arith) inside
 
-  pub pieces_of-apart : AllPairs AreApart (pieces_of addr len step)
-  pieces_of-apart = pieces_from-apart addr len step count
+  pub cut_pieces-apart : AllPairs AreApart (cut_pieces addr len step)
+  cut_pieces-apart = pieces_from-apart addr len step count
 
 -- ---- the chain of a command
 
@@ -59,12 +59,12 @@ module _ (len room : ℕ) where
   writable_pieces = drop-append_seam (command_pieces len) (room_pieces room)
 
   pub length-command_pieces : length (command_pieces len) ≡ div_ceil len 64
-  length-command_pieces = length-pieces_of command_addr len command_step (omega arith)
+  length-command_pieces = length-cut_pieces command_addr len command_step (omega arith)
 
   pub length-chain_pieces : length (chain_pieces len room) ≡ div_ceil len 64 + div_ceil room 256
   length-chain_pieces =
       length-append (command_pieces len) (room_pieces room)
-      ∙ rw (length-command_pieces, length-pieces_of reply_addr room room_step (omega arith)) refl
+      ∙ rw (length-command_pieces, length-cut_pieces reply_addr room room_step (omega arith)) refl
 
   -- a list of pieces to which both were added
   pub added-command : (old now : List Piece) → old ≡ [] → now ≡ old ++ command_pieces len → now ≡ command_pieces len
@@ -74,7 +74,7 @@ module _ (len room : ℕ) where
   added-room old now command is = is ∙ rw command refl
 
   pub room_of-room_pieces : room_of (room_pieces room) ≡ room
-  room_of-room_pieces = room_of-pieces_of reply_addr room room_step (omega arith)
+  room_of-room_pieces = room_of-cut_pieces reply_addr room room_step (omega arith)
 
   pub some_pieces : 0 < len → 0 < length (chain_pieces len room)
   some_pieces some = let e = (div_ceil_times len 64 (omega arith)).0 in omega (arith, length-chain_pieces, e, some)
@@ -87,10 +87,10 @@ module _ (len room : ℕ) where
         omega (arith, length-chain_pieces, e, f)
 
     command-between : All (LiesBetween command_addr reply_addr) (command_pieces len)
-    command-between = pieces_of-between command_addr len command_step (omega arith) reply_addr (omega (arith, short))
+    command-between = cut_pieces-between command_addr len command_step (omega arith) reply_addr (omega (arith, short))
 
     room-between : All (LiesBetween reply_addr bench_bytes) (room_pieces room)
-    room-between = pieces_of-between reply_addr room room_step (omega arith) bench_bytes (omega (arith, small))
+    room-between = cut_pieces-between reply_addr room room_step (omega arith) bench_bytes (omega (arith, small))
 
     all-between : All (LiesBetween command_addr bench_bytes) (chain_pieces len room)
     all-between = All-append (LiesBetween command_addr bench_bytes) (command_pieces len) (room_pieces room)
@@ -112,7 +112,7 @@ module _ (len room : ℕ) where
     pub postable : ArePostable bench_bytes bench_place (chain_pieces len room) (length (command_pieces len))
     postable = record {
       few = few_pieces;
-      short = rw readable_pieces (rw (room_of-pieces_of command_addr len command_step (omega arith)) short);
+      short = rw readable_pieces (rw (room_of-cut_pieces command_addr len command_step (omega arith)) short);
       inside = All-weaker (LiesBetween command_addr bench_bytes) (PieceLiesIn bench_bytes) (λ p lies. lies.to) (chain_pieces len room) all-between;
       clear = All-weaker (LiesBetween command_addr bench_bytes) (IsClearOf bench_place) (λ p lies. clear_behind p lies.from) (chain_pieces len room) all-between;
     }
@@ -127,5 +127,5 @@ module _ (len room : ℕ) where
     pub lie_apart : LieApartForReply (chain_pieces len room) (length (command_pieces len))
     lie_apart = record {
       command = rw (readable_pieces, writable_pieces) (All-weaker (LiesBetween command_addr reply_addr) (λ p. All (AreApart p) (room_pieces room)) apart_from_room (command_pieces len) command-between);
-      reply = rw writable_pieces (pieces_of-apart reply_addr room room_step (omega arith));
+      reply = rw writable_pieces (cut_pieces-apart reply_addr room room_step (omega arith));
     }

@@ -13,7 +13,7 @@ use Rattle.ff_headers.specs.declared.rule.Action.TheVariants.{Default, Queue}
 use Rattle.byte_numbers.specs.Numbers.{le16_at, le32_at, le64_at}
 use Rattle.admin_wire.specs.Lists.{whole_entry, entries_of, selector_of, raw_list, list_of}
 use Rattle.admin_wire.specs.Objects.{head_of, group_of, classifier_of, raw_key, rule_of, object_of, head_and_object}
-use Rattle.admin_wire.specs.Headers.{header_of, opcode_of}
+use Rattle.admin_wire.specs.Headers.{command_header, opcode_of}
 use Rattle.admin_wire.specs.Wire.{data_of, command_of}
 use Rattle.admin_wire.specs.Replies.{whole_reply}
 use Rattle.cap_table.specs.Answers.{answer_of, verdict_of}
@@ -55,25 +55,25 @@ frame_arp = pair_bytes (codes "ffffffffffff0200000000010806")
 
 -- each is obeyed, and made a change
 all_obeyed : AreAnswered (start_state caps Ready) commands (obeyed ∷ obeyed ∷ obeyed ∷ [])
-unfolding caps hex_line commands obeyed shape_fault fits matches rule_matches first_rule action_of headers_of has_ipv4 names_ip carries ip_end eth_field ip_field is_allowed after is_sound with_change_made step le16_at le32_at le64_at whole_entry entries_of selector_of raw_list list_of group_of classifier_of raw_key rule_of object_of header_of opcode_of head_of head_and_object data_of command_of whole_reply answer_of verdict_of no_memory_reply is_no_memory changes_made_by state_left IsAnswered state_behind changes_made
+unfolding caps hex_line commands obeyed shape_fault fits matches rule_matches first_rule action_of headers_of has_ipv4 names_ip carries ip_end eth_field ip_field is_allowed after is_sound with_change_made step le16_at le32_at le64_at whole_entry entries_of selector_of raw_list list_of group_of classifier_of raw_key rule_of object_of command_header opcode_of head_of head_and_object data_of command_of whole_reply answer_of verdict_of no_memory_reply is_no_memory changes_made_by state_left IsAnswered state_behind changes_made
 all_obeyed = (refl, (refl, (refl, tt)))
 
 three_changes : length (accepted_changes caps Ready commands (obeyed ∷ obeyed ∷ obeyed ∷ [])) ≡ 3
-unfolding caps hex_line commands obeyed shape_fault fits matches rule_matches first_rule action_of headers_of has_ipv4 names_ip carries ip_end eth_field ip_field is_allowed after is_sound with_change_made step le16_at le32_at le64_at whole_entry entries_of selector_of raw_list list_of group_of classifier_of raw_key rule_of object_of header_of opcode_of head_of head_and_object data_of command_of whole_reply answer_of verdict_of no_memory_reply is_no_memory changes_made_by state_left IsAnswered state_behind changes_made
+unfolding caps hex_line commands obeyed shape_fault fits matches rule_matches first_rule action_of headers_of has_ipv4 names_ip carries ip_end eth_field ip_field is_allowed after is_sound with_change_made step le16_at le32_at le64_at whole_entry entries_of selector_of raw_list list_of group_of classifier_of raw_key rule_of object_of command_header opcode_of head_of head_and_object data_of command_of whole_reply answer_of verdict_of no_memory_reply is_no_memory changes_made_by state_left IsAnswered state_behind changes_made
 three_changes = refl
 
 -- the group is refused for want of memory, so the rule has none; one change is made, and the first two commands made it
 group_refused : AreAnswered (start_state caps Ready) commands (no_memory_reply ∷ obeyed ∷ pair_bytes (codes "0600060000000000") ∷ [])
-unfolding caps hex_line commands obeyed shape_fault fits matches rule_matches first_rule action_of headers_of has_ipv4 names_ip carries ip_end eth_field ip_field is_allowed after is_sound with_change_made step le16_at le32_at le64_at whole_entry entries_of selector_of raw_list list_of group_of classifier_of raw_key rule_of object_of header_of opcode_of head_of head_and_object data_of command_of whole_reply answer_of verdict_of no_memory_reply is_no_memory changes_made_by state_left IsAnswered state_behind changes_made
+unfolding caps hex_line commands obeyed shape_fault fits matches rule_matches first_rule action_of headers_of has_ipv4 names_ip carries ip_end eth_field ip_field is_allowed after is_sound with_change_made step le16_at le32_at le64_at whole_entry entries_of selector_of raw_list list_of group_of classifier_of raw_key rule_of object_of command_header opcode_of head_of head_and_object data_of command_of whole_reply answer_of verdict_of no_memory_reply is_no_memory changes_made_by state_left IsAnswered state_behind changes_made
 group_refused = ((PutGroup 1 5, refl), (refl, (refl, tt)))
 
 one_told : told_changes caps Ready commands (no_memory_reply ∷ obeyed ∷ pair_bytes (codes "0600060000000000") ∷ []) 2 ≡ 1
-unfolding caps hex_line commands obeyed shape_fault fits matches rule_matches first_rule action_of headers_of has_ipv4 names_ip carries ip_end eth_field ip_field is_allowed after is_sound with_change_made step le16_at le32_at le64_at whole_entry entries_of selector_of raw_list list_of group_of classifier_of raw_key rule_of object_of header_of opcode_of head_of head_and_object data_of command_of whole_reply answer_of verdict_of no_memory_reply is_no_memory changes_made_by state_left IsAnswered state_behind changes_made
+unfolding caps hex_line commands obeyed shape_fault fits matches rule_matches first_rule action_of headers_of has_ipv4 names_ip carries ip_end eth_field ip_field is_allowed after is_sound with_change_made step le16_at le32_at le64_at whole_entry entries_of selector_of raw_list list_of group_of classifier_of raw_key rule_of object_of command_header opcode_of head_of head_and_object data_of command_of whole_reply answer_of verdict_of no_memory_reply is_no_memory changes_made_by state_left IsAnswered state_behind changes_made
 one_told = refl
 
 -- a frame that was read before the rule came, one behind it, and one that it doesn't match
 lines : AllZip (IsPacketLine caps.limits (accepted_changes caps Ready commands (obeyed ∷ obeyed ∷ obeyed ∷ [])) 2) (frame_ip ∷ frame_ip ∷ frame_arp ∷ []) (record { after = 2; action = Default } ∷ record { after = 3; action = Queue 1 } ∷ record { after = 3; action = Default } ∷ [])
-unfolding caps hex_line commands obeyed frame_ip frame_arp shape_fault fits matches rule_matches first_rule action_of headers_of has_ipv4 names_ip carries ip_end eth_field ip_field is_allowed after is_sound with_change_made step le16_at le32_at le64_at whole_entry entries_of selector_of raw_list list_of group_of classifier_of raw_key rule_of object_of header_of opcode_of head_of head_and_object data_of command_of whole_reply answer_of verdict_of no_memory_reply is_no_memory changes_made_by state_left IsAnswered state_behind changes_made
+unfolding caps hex_line commands obeyed frame_ip frame_arp shape_fault fits matches rule_matches first_rule action_of headers_of has_ipv4 names_ip carries ip_end eth_field ip_field is_allowed after is_sound with_change_made step le16_at le32_at le64_at whole_entry entries_of selector_of raw_list list_of group_of classifier_of raw_key rule_of object_of command_header opcode_of head_of head_and_object data_of command_of whole_reply answer_of verdict_of no_memory_reply is_no_memory changes_made_by state_left IsAnswered state_behind changes_made
 lines = (
   record { counted = omega arith; covers = omega arith; acted = refl },
   (

@@ -17,7 +17,7 @@ use Rattle.snapshots.specs.Fresh.{IsFresh}
 use Rattle.snapshots.specs.Workers.{WorkerState}
 use Rattle.steer.specs.AdminSides.{HasRunTo}
 use Rattle.steer.specs.LiveCommands.{state_behind, changes_made}
-use Rattle.steer.specs.LivePhases.{IsReady, IsOpened, HasBeenLive, HasClosed}
+use Rattle.steer.specs.LivePhases.{IsReady, IsLiveStart, HasBeenLive, HasClosed}
 use Rattle.steer.specs.LiveRuns.{IsLiveRun, accepted_changes, told_changes}
 use Rattle.steer.specs.LiveSteps.{HasRun, HasLearned, HasReadOn, HasReadLast, HaveTurned, HasKept, HaveRoom}
 use Rattle.steer.specs.Results.{replies_in, log_at, read_of, packet_lines, HasRead}
@@ -81,7 +81,7 @@ record Was (lines : List AdminLine) (frames : List (List ℕ)) (workers place : 
   learned : HasLearned first w0 w1
   read : HasReadOn w1 w2 (share frames workers place)
 
-was : (caps : CapsParts) (start : Start) (lines : List AdminLine) (frames : List (List ℕ)) (workers first : ℕ) (s0 s1 : AdminSide) (r0 r1 : List WorkerState) → IsOpened caps start (length lines) (length frames) workers s0 r0 → (m : HasBeenLive lines frames workers first s0 s1 r0 r1) → (place : ℕ) (d : WorkerState) → place < workers → Was lines frames workers place s0.end m.middle.end.list (get_or r1 place d)
+was : (caps : CapsParts) (start : Start) (lines : List AdminLine) (frames : List (List ℕ)) (workers first : ℕ) (s0 s1 : AdminSide) (r0 r1 : List WorkerState) → IsLiveStart caps start (length lines) (length frames) workers s0 r0 → (m : HasBeenLive lines frames workers first s0 s1 r0 r1) → (place : ℕ) (d : WorkerState) → place < workers → Was lines frames workers place s0.end m.middle.end.list (get_or r1 place d)
 was caps start lines frames workers first s0 s1 r0 r1 o m place d lt =
     let inside : place < length r0 = omega (arith, o.as_many) in
     let in_told : place < length m.told = omega (arith, m.telling.as_many) in
@@ -99,7 +99,7 @@ pub record AreStillOpen (end : EndState) (workers : ℕ) (ws : List WorkerState)
   pub identity : All (λ worker. worker.identity ≡ end.identity) ws
   pub room : All (λ worker. 0 < worker.spare) ws
 
-pub still_open : (caps : CapsParts) (start : Start) (lines : List AdminLine) (frames : List (List ℕ)) (workers first : ℕ) (s0 s1 : AdminSide) (r0 r1 : List WorkerState) → IsOpened caps start (length lines) (length frames) workers s0 r0 → HasBeenLive lines frames workers first s0 s1 r0 r1 → AreStillOpen s1.end workers r1
+pub still_open : (caps : CapsParts) (start : Start) (lines : List AdminLine) (frames : List (List ℕ)) (workers first : ℕ) (s0 s1 : AdminSide) (r0 r1 : List WorkerState) → IsLiveStart caps start (length lines) (length frames) workers s0 r0 → HasBeenLive lines frames workers first s0 s1 r0 r1 → AreStillOpen s1.end workers r1
 still_open caps start lines frames workers first s0 s1 r0 r1 o m = record {
   as_many = long;
   identity = λ k d lt.
@@ -131,12 +131,12 @@ nothing_made : (s : DeviceState) → [] ≡ changes_made s [] []
 unfolding changes_made
 nothing_made s = refl
 
-none_carried_out : (caps : CapsParts) (start : Start) (lines : List AdminLine) (n workers : ℕ) (s0 : AdminSide) (r0 : List WorkerState) → IsOpened caps start (length lines) n workers s0 r0 → HasRunTo (start_state caps start) lines 0 s0
+none_carried_out : (caps : CapsParts) (start : Start) (lines : List AdminLine) (n workers : ℕ) (s0 : AdminSide) (r0 : List WorkerState) → IsLiveStart caps start (length lines) n workers s0 r0 → HasRunTo (start_state caps start) lines 0 s0
 none_carried_out caps start lines n workers s0 r0 o =
     let s = start_state caps start in
     subst (λ rs. HasRun s [] rs s0.device s0.end.list) (sym (ap replies_in o.replies)) (record { answered = tt; left = o.device ∙ nothing_left s; published = o.list ∙ nothing_made s })
 
-pub live_ends : (caps : CapsParts) (start : Start) (lines : List AdminLine) (frames : List (List ℕ)) (workers first : ℕ) (s0 s1 : AdminSide) (r0 r1 : List WorkerState) (run : LiveResult) → 1 ≤ workers → length lines < 2 ^ 32 → IsOpened caps start (length lines) (length frames) workers s0 r0 → HasBeenLive lines frames workers first s0 s1 r0 r1 → HasClosed s1 r1 run → LiveEnds caps start lines frames workers first run
+pub live_ends : (caps : CapsParts) (start : Start) (lines : List AdminLine) (frames : List (List ℕ)) (workers first : ℕ) (s0 s1 : AdminSide) (r0 r1 : List WorkerState) (run : LiveResult) → 1 ≤ workers → length lines < 2 ^ 32 → IsLiveStart caps start (length lines) (length frames) workers s0 r0 → HasBeenLive lines frames workers first s0 s1 r0 r1 → HasClosed s1 r1 run → LiveEnds caps start lines frames workers first run
 live_ends caps start lines frames workers first s0 s1 r0 r1 run some few o m h = record {
   legal = is_live caps start lines frames workers first rs run.workers some whole.answered ended;
   published = closed_list;

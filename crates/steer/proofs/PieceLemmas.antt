@@ -11,7 +11,7 @@ use Rattle.std.proofs.lemmas.List.Sums.{sum_by-cons}
 use Rattle.guest_mem.specs.Memory.{bytes_at}
 use Rattle.split_queue.specs.Chains.{room_of, bytes_in, AreApart}
 use Rattle.split_queue.specs.declared.chain.Piece.{Piece}
-use Rattle.steer.specs.BenchPlaces.{pieces_from, pieces_of}
+use Rattle.steer.specs.BenchPlaces.{pieces_from, cut_pieces}
 
 pub length-pieces_from : (addr len step n : ℕ) → length (pieces_from addr len step n) ≡ n
 length-pieces_from addr len step zero = refl
@@ -72,7 +72,7 @@ pieces_from-apart addr len step (suc n) =
 
 -- so many of the pieces were added: the bytes from `start` on are left, and cut into the others they complete them
 pub record IsCutting (old : List Piece) (addr len step i : ℕ) (now : List Piece) (start rest : ℕ) : Type 0 where
-  pub completes : now ++ pieces_from start rest step (div_ceil len step - i) ≡ old ++ pieces_of addr len step
+  pub completes : now ++ pieces_from start rest step (div_ceil len step - i) ≡ old ++ cut_pieces addr len step
   pub inside : start + rest ≡ addr + len
   pub count : length now ≡ length old + i
 
@@ -97,7 +97,7 @@ module _ (old : List Piece) (addr len step : ℕ) where
         count = omega (arith, so_far.count, length-append now (piece ∷ []));
       }
 
-  pub cutting-all : (i : ℕ) (now : List Piece) (start rest : ℕ) → i ≡ div_ceil len step → IsCutting old addr len step i now start rest → now ≡ old ++ pieces_of addr len step
+  pub cutting-all : (i : ℕ) (now : List Piece) (start rest : ℕ) → i ≡ div_ceil len step → IsCutting old addr len step i now start rest → now ≡ old ++ cut_pieces addr len step
   cutting-all i now start rest is all =
       let none : div_ceil len step - i ≡ 0 = omega (arith, is) in
       let last : pieces_from start rest step (div_ceil len step - i) ≡ [] = rw none refl in

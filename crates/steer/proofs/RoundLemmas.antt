@@ -22,7 +22,7 @@ use Rattle.steer.specs.BenchPlaces.{bench_bytes, bench_place, command_addr, comm
 use Rattle.steer.specs.BenchState.{AreReady}
 use Rattle.steer.specs.HeldCommands.{HoldsCommand}
 use Rattle.steer.specs.Rounds.{with_command, with_posted, round_of}
-use Rattle.steer.proofs.ChainLemmas.{bytes_in-pieces_of, readable_pieces, writable_pieces, room_of-room_pieces, some_pieces, room-inside, room-clear, postable, short_pieces, lie_apart}
+use Rattle.steer.proofs.ChainLemmas.{bytes_in-cut_pieces, readable_pieces, writable_pieces, room_of-room_pieces, some_pieces, room-inside, room-clear, postable, short_pieces, lie_apart}
 
 -- ---- a reply fits in its room
 
@@ -58,7 +58,7 @@ module _ (mem command : List ℕ) (size : length mem ≡ bench_bytes) (short : l
 
   pub bytes_in-command : bytes_in (with_command mem command) (command_pieces (length command)) ≡ command
   bytes_in-command =
-      bytes_in-pieces_of command_addr (length command) command_step (omega arith) (with_command mem command)
+      bytes_in-cut_pieces command_addr (length command) command_step (omega arith) (with_command mem command)
       ∙ bytes_at-with_bytes mem command_addr command command-inside
 
   -- a device that pops the chain gets the command, with the room

@@ -48,15 +48,15 @@ pieces_from addr len step (suc more) =
 
 -- so many bytes at an address, cut into pieces of `step` bytes of which the last one is the rest; of no bytes there is
 -- no piece
-abbrev pub pieces_of : ℕ → ℕ → ℕ → List Piece
-pieces_of addr len step = pieces_from addr len step (div_ceil len step)
+abbrev pub cut_pieces : ℕ → ℕ → ℕ → List Piece
+cut_pieces addr len step = pieces_from addr len step (div_ceil len step)
 
 -- the pieces of a command of so many bytes, and those of the room for its reply
 abbrev pub command_pieces : ℕ → List Piece
-command_pieces len = pieces_of command_addr len command_step
+command_pieces len = cut_pieces command_addr len command_step
 
 abbrev pub room_pieces : ℕ → List Piece
-room_pieces room = pieces_of reply_addr room room_step
+room_pieces room = cut_pieces reply_addr room room_step
 
 -- the pieces of the chain for a command of so many bytes and a room: the command's, and then the room's
 abbrev pub chain_pieces : ℕ → ℕ → List Piece

@@ -23,7 +23,7 @@ pub record IsReady (end : EndState) (n workers place : ℕ) (worker : WorkerStat
   pub spare : worker.spare ≡ share_len n workers place + 1
 
 -- a device at its start, with room for so many replies, whose published tables are empty, and its workers
-pub record IsOpened (caps : CapsParts) (start : Start) (commands n workers : ℕ) (side : AdminSide)
+pub record IsLiveStart (caps : CapsParts) (start : Start) (commands n workers : ℕ) (side : AdminSide)
     (readers : List WorkerState) : Type 0 where
   pub device : side.device ≡ start_state caps start
   pub replies : side.replies.items ≡ []

@@ -10,6 +10,7 @@ ghost use Rattle.steer.specs.BenchPlaces.{bench_bytes, most_command, most_room};
 ghost use Rattle.steer.specs.HeldCommands.{HoldsCommand};
 
 use crate::fresh::{fresh_ends, zero_bytes};
+use crate::pieces::Pieces;
 use crate::round::{MEMORY_BYTES, PLACE, give_back, obey, pop_chain, post_command, take_back};
 use admin_dev::{Device, Start};
 use admin_wire::ReplyBytes;
@@ -31,7 +32,8 @@ pub struct Bench {
     mem: GuestMem,
     driver_end: DriverEnd,
     device_end: DeviceEnd,
-    // where the chain of a command is put, so that none is moved; no round sees what an earlier one left there
+    // where a command's pieces and its chain are put, so that none is moved; no round sees what an earlier one left
+    pieces: Pieces,
     chain: Chain,
 }
 
@@ -68,6 +70,7 @@ impl Bench {
             mem,
             driver_end,
             device_end,
+            pieces: Pieces::new(),
             chain: Chain::empty(),
         })
     }
@@ -85,7 +88,13 @@ impl Bench {
         ensures memory { length self.new.memory ≡ bench_bytes }
         ensures ring { HoldsCommand self.new.memory self.new.commands bytes.now room result.items }
     {
-        let _head = post_command(&mut self.driver_end, &mut self.mem, bytes, room);
+        let _head = post_command(
+            &mut self.driver_end,
+            &mut self.mem,
+            &mut self.pieces,
+            bytes,
+            room,
+        );
         pop_chain(&mut self.device_end, &self.mem, &mut self.chain);
         let space = self.chain.room();
         let command = self.chain.readable.as_slice();

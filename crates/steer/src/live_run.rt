@@ -1,7 +1,7 @@
 //! Live runs: commands change the rules while workers read frames.
 
 ghost use Rattle.std.specs.Prelude.{◌≡◌, ℕ, ◌<◌, ◌≤◌, ◌^◌, ◌%◌, ◌/◌, ◌++◌, ◌∷◌, [], All, IfOk, Some, length, slice_get, vec_capacity};
-ghost use Rattle.steer.specs.LivePhases.{IsOpened, HasBeenLive, HasClosed};
+ghost use Rattle.steer.specs.LivePhases.{IsLiveStart, HasBeenLive, HasClosed};
 ghost use Rattle.steer.specs.LiveSteps.{HaveRoom};
 ghost use Rattle.ff_headers.specs.declared.change.Change.TheVariants.{Close};
 ghost use Rattle.snapshots.specs.Workers.{WorkerState};
@@ -103,7 +103,7 @@ fn open_run<R: Wait>(
 ) -> Result<(AdminSide, Vec<Worker<PairDoor>>), AllocError>
     requires some { 1 ≤ workers }
     requires few { workers ≤ 16 }
-    ensures { IfOk result (λ t. IsOpened caps start commands n workers t.0 t.1.items) }
+    ensures { IfOk result (λ t. IsLiveStart caps start commands n workers t.0 t.1.items) }
 {
     let replies = Vec::with_capacity(alloc, commands)?;
     let limits = *caps.limits();

@@ -1,7 +1,7 @@
 //! How bytes of guest memory are cut into the pieces of a chain.
 ghost use Rattle.std.specs.Prelude.{◌≡◌, ◌+◌, ◌^◌, ◌<◌, ◌≤◌, ◌++◌, length};
 ghost use Rattle.std.specs.Int.{div_ceil};
-ghost use Rattle.steer.specs.BenchPlaces.{bench_size, pieces_of};
+ghost use Rattle.steer.specs.BenchPlaces.{bench_size, cut_pieces};
 
 use arrayvec::ArrayVec;
 use split_queue::{MOST_DESCRIPTORS, Piece};
@@ -14,7 +14,7 @@ pub(crate) fn add_pieces(pieces: &mut Pieces, addr: u64, len: u32, step: u32)
     requires some { 0 < step }
     requires inside { addr + len < 2 ^ 32 }
     requires few { length pieces.old.items + div_ceil len step ≤ bench_size }
-    ensures { pieces.new.items ≡ pieces.old.items ++ pieces_of addr len step }
+    ensures { pieces.new.items ≡ pieces.old.items ++ cut_pieces addr len step }
 {
     let mut start = addr;
     let mut rest = len;

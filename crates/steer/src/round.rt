@@ -15,7 +15,6 @@ ghost use Rattle.steer.specs.Rounds.{with_posted};
 use crate::pieces::{Pieces, add_pieces};
 use admin_dev::{Decision, Device, Effect};
 use admin_wire::ReplyBytes;
-use arrayvec::ArrayVec;
 use guest_mem::GuestMem;
 use matcher::Tables;
 use split_queue::{Chain, DeviceEnd, DriverEnd, Place};
@@ -42,10 +41,11 @@ const COMMAND_STEP: u32 = 64;
 const ROOM_STEP: u32 = 256;
 
 /// Writes a command into the memory, and posts a chain for it: its pieces for the device to read, and those of the room
-/// for it to write. It gives the chain's head.
+/// for it to write. It gives the chain's head. The pieces are put where others stood.
 pub(crate) fn post_command(
     driver_end: &mut DriverEnd,
     mem: &mut GuestMem,
+    pieces: &mut Pieces,
     bytes: &[u8],
     room: u32,
 ) -> u16
@@ -68,10 +68,10 @@ pub(crate) fn post_command(
     // Its clause says that the driver's end is valid.
     let _ = driver_end.free_len();
     mem.write(COMMAND_ADDR, bytes).unwrap();
-    let mut pieces: Pieces = ArrayVec::new();
-    add_pieces(&mut pieces, COMMAND_ADDR, bytes.len() as u32, COMMAND_STEP);
+    pieces.clear();
+    add_pieces(pieces, COMMAND_ADDR, bytes.len() as u32, COMMAND_STEP);
     let readable = pieces.len();
-    add_pieces(&mut pieces, REPLY_ADDR, room, ROOM_STEP);
+    add_pieces(pieces, REPLY_ADDR, room, ROOM_STEP);
     driver_end.post(mem, pieces.as_slice(), readable).unwrap()
 }
 
@@ -103,7 +103,7 @@ fn change(tables: &mut Tables, effect: &Effect)
     ensures { tables.new ≡ changed_by effect.now tables.old }
 {
     if let Effect::Change(change) = effect {
-        tables.apply(change.copy());
+        tables.apply_copy(change);
     }
 }
 

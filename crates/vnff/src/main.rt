@@ -8,6 +8,7 @@
 
 ghost use Rattle.std.specs.Prelude.{◌≡◌, ◌≤◌, ◌⊎◌, IfErr, IfOk};
 
+use cap_table::MOST_PAIRS;
 use rx_sinks::{CaptureSink, Rack, RxSink};
 use std::alloc::AllocError;
 use std::env;
@@ -19,9 +20,6 @@ use std::thread::Threads;
 use steer::Open;
 use vnff_base::{DirShelf, FileOut, StdOut};
 use vnff_run::{FAULTY_WORDS, NO_MEMORY, top};
-
-/// How many queues have a sink: as many as a device may have.
-const QUEUES: u8 = 16;
 
 /// The words behind the program's own name, or the exit status where there are none to run on.
 fn words<R: Env + AllocGlobal>(rt: &R) -> Result<Vec<String>, u8>
@@ -44,8 +42,9 @@ fn run<T: Threads + Wait + Sync>(rt: &HostRuntime, threads: &T) -> Result<u8, Al
         Ok(words) => words,
         Err(status) => return Ok(status),
     };
+    // A sink for each queue that a device may have.
     let mut sinks: Vec<Box<dyn RxSink>> = Vec::new(rt.alloc());
-    for queue in 0..QUEUES {
+    for queue in 0..MOST_PAIRS {
         let name = format!(in rt.alloc(); "rx-{queue}.pcap")?;
         let sink = CaptureSink::new(FileOut::new(rt.clone()?, name));
         sinks.push(Box::new(rt.alloc(), sink)?)?;

@@ -8,7 +8,7 @@ use Rattle.std.proofs.lemmas.List.Elements.{All-head, All-tail, All-nil, All-con
 use Rattle.std.proofs.lemmas.Bool.{and_from, and_right, and_parts, eq-eqb, ne_eqb, cond-false, cases_Bool}
 use Rattle.std.proofs.lemmas.Bool.Decides.{nat_tests}
 use Rattle.vnff_base.specs.Hex.{hex_text, hex_bytes, pair_bytes, hex_pair, dash, are_pairs}
-use Rattle.vnff_base.specs.Bytes.{IsBytes}
+use Rattle.byte_numbers.specs.Bytes.{IsBytes}
 
 -- the pair at place k, and the pairs after it
 pub pair_bytes-drop : (word : List ℕ) (k : ℕ) → 2 * k + 1 < length word → pair_bytes (drop (2 * k) word) ≡ (16 * digit_value (get_or word (2 * k) 0) + digit_value (get_or word (2 * k + 1) 0)) ∷ pair_bytes (drop (2 * (k + 1)) word)

@@ -1,14 +1,14 @@
 -- Worked examples of the definitions.
 use Rattle.std.proofs.Common.{◌≡◌, ℕ, ◌-◌, ◌^◌, ◌<◌, ◌≤◌, ◌⊎◌, List, [], ◌∷◌, None, Some, codes, refl, arith}
-use Rattle.vnff_base.specs.Counts.{count_after, Rose}
+use Rattle.vnff_base.specs.Counts.{count_with, Rose}
 use Rattle.vnff_base.specs.MemShelves.{NamedFile, file_named}
 use Rattle.vnff_base.specs.Outputs.{told_after}
 
 -- A count goes on, and stands still at its last value.
-five : count_after 3 2 ≡ 5
+five : count_with 3 2 ≡ 5
 five = refl
 
-last : count_after 18446744073709551614 7 ≡ 18446744073709551615
+last : count_with 18446744073709551614 7 ≡ 18446744073709551615
 last = refl
 
 -- Rising, in plain words: greater than before, or at the last value.

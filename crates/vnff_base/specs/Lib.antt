@@ -1,4 +1,3 @@
-pub mod Bytes
 pub mod Counts
 pub mod Gatherings
 pub mod Hex

@@ -3,5 +3,5 @@ use Rattle.std.specs.Prelude.{◌≡◌, ℕ, List, string_bytes}
 use Rattle.vnff_base.specs.declared.dir_shelf.OpenedFile.{OpenedFile}
 
 -- The file is that of a path, and its next byte is the one at a place.
-abbrev pub IsAt : {F : Type 0} → List ℕ → ℕ → OpenedFile F → Type 0
-IsAt path at opened = (string_bytes opened.path ≡ path) × (opened.place ≡ at)
+abbrev pub IsOpenAt : {F : Type 0} → List ℕ → ℕ → OpenedFile F → Type 0
+IsOpenAt path at opened = (string_bytes opened.path ≡ path) × (opened.place ≡ at)

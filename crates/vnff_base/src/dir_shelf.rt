@@ -1,8 +1,8 @@
 //! The shelf of real files: the edge where proofs end.
 
 ghost use Rattle.std.specs.Prelude.{◌≡◌, ◌≤◌, ◌↔◌, length, None, IfOk, IsSomeAnd, IsTrue};
-ghost use Rattle.vnff_base.specs.Counts.{count_after};
-ghost use Rattle.vnff_base.specs.OpenedFiles.{IsAt};
+ghost use Rattle.vnff_base.specs.Counts.{count_with};
+ghost use Rattle.vnff_base.specs.OpenedFiles.{IsOpenAt};
 
 use crate::out::Failed;
 use crate::shelf::Shelf;
@@ -46,7 +46,7 @@ impl<R: Files + AllocGlobal> DirShelf<R> {
     /// Takes the file that is read, where it goes on at that place, or opens the file of that path there. A read from
     /// the first byte on opens the file anew.
     fn take_file(&mut self, path: &str, at: u64) -> io::Result<OpenedFile<R::File>>
-        ensures there { IfOk result (λ opened. IsAt path.now at opened) }
+        ensures there { IfOk result (λ opened. IsOpenAt path.now at opened) }
         ensures counts { (self.new.faults ≡ self.old.faults) × (self.new.given ≡ self.old.given) }
     {
         match self.reading.take() {
@@ -58,7 +58,7 @@ impl<R: Files + AllocGlobal> DirShelf<R> {
     /// Reads the piece at a place of a file, and keeps the file for the piece behind it.
     fn read_piece(&mut self, path: &str, at: u64, buf: &mut [u8]) -> io::Result<usize>
         ensures fits { IfOk result (λ n. n ≤ length buf.new) }
-        ensures kept { IfOk result (λ n. IsSomeAnd self.new.reading (IsAt path.now (count_after at n))) }
+        ensures kept { IfOk result (λ n. IsSomeAnd self.new.reading (IsOpenAt path.now (count_with at n))) }
         ensures counts { (self.new.faults ≡ self.old.faults) × (self.new.given ≡ self.old.given) }
     {
         let mut opened = self.take_file(path, at)?;
@@ -72,7 +72,7 @@ impl<R: Files + AllocGlobal> DirShelf<R> {
 impl<F: Drop> OpenedFile<F> {
     /// Whether the byte at a place of the file of that path is the next one.
     fn goes_on(&self, path: &str, at: u64) -> bool
-        ensures { IsTrue result ↔ IsAt path.now at self.now }
+        ensures { IsTrue result ↔ IsOpenAt path.now at self.now }
     {
         self.place == at && self.path.as_str() == path
     }
@@ -80,7 +80,7 @@ impl<F: Drop> OpenedFile<F> {
 
 /// Opens a file at a place. A pipe has its first byte alone as a place.
 fn open_at<R: Files + AllocGlobal>(rt: &R, path: &str, at: u64) -> io::Result<OpenedFile<R::File>>
-    ensures { IfOk result (λ opened. IsAt path.now at opened) }
+    ensures { IfOk result (λ opened. IsOpenAt path.now at opened) }
 {
     let mut file = fs::open(rt, path)?;
     if at > 0 {

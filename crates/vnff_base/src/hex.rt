@@ -4,7 +4,7 @@ ghost use Rattle.std.specs.Char.{digit_value, is_ascii_hexdigit};
 ghost use Rattle.std.specs.List.{list_all};
 ghost use Rattle.std.specs.Str.{bytes_eq};
 ghost use Rattle.vnff_base.specs.Hex.{hex_bytes, hex_text, pair_bytes, dash, are_pairs};
-ghost use Rattle.vnff_base.specs.Bytes.{IsBytes};
+ghost use Rattle.byte_numbers.specs.Bytes.{IsBytes};
 
 use std::alloc::Global;
 use thiserror::Error;

@@ -45,4 +45,4 @@ pub use put_hex::{hex_digit, hex_gather, hex_put};
 pub use shelf::Shelf;
 pub use std_out::StdOut;
 pub use text::{Line, LineReader, first_line, first_word};
-pub use whole_file::{FILE_LIMIT, ReadErr, read_all};
+pub use whole_file::{FILE_LIMIT, FILE_PIECE, ReadErr, new_piece, read_all};

@@ -1,7 +1,7 @@
 //! An output in memory, with room for so many bytes, that fails where it is told to.
 
-ghost use Rattle.std.specs.Prelude.{◌≡◌, ℕ, ◌+◌, ◌<◌, ◌≤◌, List, [], ◌∷◌, ◌++◌, length, IfOk, OnOk, OnErr, IsErr, Contains, ◌↔◌, ◌⊎◌};
-ghost use Rattle.vnff_base.specs.Counts.{count_after};
+ghost use Rattle.std.specs.Prelude.{◌≡◌, ◌+◌, ◌<◌, ◌≤◌, [], ◌∷◌, ◌++◌, length, IfOk, OnOk, OnErr, IsErr, Contains, ◌↔◌, ◌⊎◌};
+ghost use Rattle.vnff_base.specs.Counts.{count_with};
 ghost use Rattle.vnff_base.specs.MemOuts.{output_state};
 ghost use Rattle.vnff_base.specs.Outputs.{Writes};
 
@@ -83,12 +83,12 @@ impl Out for MemOut {
         ensures fails { IsErr result
             ↔ (Contains self.old.failing self.old.calls ⊎ (self.old.room < length self.old.bytes + length piece.now)) }
         ensures err { OnErr result (self.new ≡ record self.old {
-          calls = count_after self.old.calls 1;
-          faults = count_after self.old.faults 1;
+          calls = count_with self.old.calls 1;
+          faults = count_with self.old.faults 1;
         }) }
         ensures ok { OnOk result (self.new ≡ record self.old {
           bytes = self.old.bytes ++ piece.now;
-          calls = count_after self.old.calls 1;
+          calls = count_with self.old.calls 1;
         }) }
     {
         let call = self.calls;

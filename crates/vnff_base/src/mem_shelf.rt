@@ -1,7 +1,7 @@
 //! A shelf in memory, that fails where it is told to.
 
-ghost use Rattle.std.specs.Prelude.{◌≡◌, ℕ, ◌+◌, ◌-◌, ◌<◌, ◌≤◌, min, drop, List, [], ◌∷◌, ◌++◌, length, Some, None, option_copied, IfSome, IfOk, OnOk, OnErr, IsErr, MatchResult, Contains, ◌↔◌, ◌⊎◌};
-ghost use Rattle.vnff_base.specs.Counts.{count_after};
+ghost use Rattle.std.specs.Prelude.{◌≡◌, ◌+◌, ◌-◌, ◌<◌, ◌≤◌, min, drop, [], ◌∷◌, ◌++◌, length, Some, None, option_copied, IfSome, IfOk, OnOk, OnErr, IsErr, MatchResult, Contains, ◌↔◌, ◌⊎◌};
+ghost use Rattle.vnff_base.specs.Counts.{count_with};
 ghost use Rattle.vnff_base.specs.MemShelves.{file_named, shelf_state};
 ghost use Rattle.vnff_base.specs.Shelves.{Fills, ReadsFile, HasCause};
 
@@ -95,7 +95,7 @@ impl Shelf for MemShelf {
         ensures fits { IfOk result (λ n. n ≤ length buf.new) }
         ensures bytes { IfOk result (λ n. ReadsFile (shelf_state self.old) name.now at n buf.new) }
         ensures given { MatchResult result
-            (λ n. self.new.given ≡ count_after self.old.given n)
+            (λ n. self.new.given ≡ count_with self.old.given n)
             (λ _. self.new.given ≡ self.old.given) }
         ensures faults { MatchResult result
             (λ _. self.new.faults ≡ self.old.faults)
@@ -107,7 +107,7 @@ impl Shelf for MemShelf {
         ensures fails { IsErr result
             ↔ (Contains self.old.failing self.old.calls ⊎ (file_named self.old.files name.now ≡ None)) }
         // The calls named for it alone are counted as failures.
-        ensures counted { Contains self.old.failing self.old.calls → self.new.faults ≡ count_after self.old.faults 1 }
+        ensures counted { Contains self.old.failing self.old.calls → self.new.faults ≡ count_with self.old.faults 1 }
         ensures missed { (Contains self.old.failing self.old.calls → ⊥) → self.new.faults ≡ self.old.faults }
         ensures whole { IfOk result (λ n. IfSome (file_named self.old.files name.now)
             (λ file. n ≡ min (length buf.new) (length file - at))) }
@@ -115,7 +115,7 @@ impl Shelf for MemShelf {
         ensures behind { IfOk result (λ n. drop n buf.new ≡ drop n buf.old) }
         ensures untouched { OnErr result (buf.new ≡ buf.old) }
         ensures rest { self.new ≡ record self.old {
-          calls = count_after self.old.calls 1;
+          calls = count_with self.old.calls 1;
           faults = self.new.faults;
           given = self.new.given;
         } }

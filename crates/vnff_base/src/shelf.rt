@@ -1,7 +1,7 @@
 //! A shelf: a place that files are read from.
 
 ghost use Rattle.std.specs.Prelude.{◌≡◌, ◌≤◌, length, IfOk, OnErr, MatchResult};
-ghost use Rattle.vnff_base.specs.Counts.{count_after};
+ghost use Rattle.vnff_base.specs.Counts.{count_with};
 ghost use Rattle.vnff_base.specs.Shelves.{ShelfState, ReadsFile, HasCause};
 
 use crate::out::Failed;
@@ -19,7 +19,7 @@ pub trait Shelf {
         ensures fits { IfOk result (λ n. n ≤ length buf.new) }
         ensures bytes { IfOk result (λ n. ReadsFile (state self.old) name.now at n buf.new) }
         ensures given { MatchResult result
-            (λ n. (state self.new).given ≡ count_after (state self.old).given n)
+            (λ n. (state self.new).given ≡ count_with (state self.old).given n)
             (λ _. (state self.new).given ≡ (state self.old).given) }
         ensures faults { MatchResult result
             (λ _. (state self.new).faults ≡ (state self.old).faults)

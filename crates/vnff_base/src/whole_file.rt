@@ -1,7 +1,7 @@
 //! A whole file, read from a shelf.
 
 ghost use Rattle.std.specs.Prelude.{◌≡◌, ◌+◌, ◌<◌, ◌≤◌, length, IfOk, IsErrOf};
-ghost use Rattle.vnff_base.specs.Counts.{count_after};
+ghost use Rattle.vnff_base.specs.Counts.{count_with};
 ghost use Rattle.vnff_base.specs.Reads.{OfFile};
 ghost use Rattle.vnff_base.specs.Shelves.{HasCause, file_limit};
 
@@ -13,7 +13,7 @@ use thiserror::Error;
 pub const FILE_LIMIT: u64 = 67_108_864;
 
 /// How many bytes are asked of the shelf at once.
-const PIECE: usize = 65_536;
+pub const FILE_PIECE: usize = 65_536;
 
 /// Why a file wasn't read.
 #[derive(Clone, Copy, Debug, PartialEq, Eq, Error)]
@@ -45,7 +45,7 @@ pub fn read_all<S: Shelf>(
     ensures longer { IsErrOf result ReadErr.TooLong
         → OfFile (S.state shelf.old) name.now (λ file. limit < length file) }
     ensures taken { IsErrOf result ReadErr.TooLong
-        → count_after (S.state shelf.old).given (limit + 1) ≤ (S.state shelf.new).given }
+        → count_with (S.state shelf.old).given (limit + 1) ≤ (S.state shelf.new).given }
 
     // Only a read that failed touches the count of failures.
     ensures same_count { (IsErrOf result ReadErr.ReadFault → ⊥)
@@ -72,9 +72,13 @@ pub fn read_all<S: Shelf>(
     }
 }
 
-/// Room for one piece of a file, off the stack.
-fn new_piece(alloc: Global) -> Result<Vec<u8>, AllocError>
-    ensures { IfOk result (λ v. length v.items ≡ PIECE) }
+/// Room for one piece of a file, [`FILE_PIECE`] bytes, off the stack.
+///
+/// # Errors
+///
+/// Where memory runs out.
+pub fn new_piece(alloc: Global) -> Result<Vec<u8>, AllocError>
+    ensures { IfOk result (λ piece. length piece.items ≡ FILE_PIECE) }
 {
-    vec![in alloc; 0u8; PIECE]
+    vec![in alloc; 0u8; FILE_PIECE]
 }

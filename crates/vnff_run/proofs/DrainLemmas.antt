@@ -6,7 +6,7 @@ use Rattle.std.proofs.lemmas.Bool.{cases_lt, cond-false, cond-true, eq-eqb, eqb-
 use Rattle.std.proofs.lemmas.List.{get_or_past}
 use Rattle.std.proofs.lemmas.List.Elements.{All-get_or}
 use Rattle.byte_numbers.proofs.NumberLaws.{le16_at-below}
-use Rattle.guest_mem.specs.Memory.{IsBytes}
+use Rattle.byte_numbers.specs.Bytes.{IsBytes}
 use Rattle.split_queue.specs.DeviceEnds.{DeviceEndState, after_pop, after_push, as_pop_answer, chain_in_slot, device_start, pop_answer}
 use Rattle.split_queue.specs.QueuePlaces.{available_idx_addr}
 use Rattle.split_queue.specs.Rings.{available_head, available_idx, index_after, index_gap, with_used_entry}

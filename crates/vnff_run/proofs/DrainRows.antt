@@ -11,7 +11,7 @@ use Rattle.split_queue.specs.Setup.{setup_fault}
 use Rattle.split_queue.specs.Walks.{buffer_fault, chain_from, chain_of, next_fault, next_in_chain}
 use Rattle.vnff_run.specs.Drain.{chain_line, drain_text, drained_chains, end_line, ring_fault_line}
 use Rattle.vnff_run.specs.DrainWords.{place_from_words, size_of}
-use Rattle.vnff_run.specs.Forms.{form_of}
+use Rattle.vnff_run.specs.Forms.{word_form}
 use Rattle.vnff_run.specs.Inputs.{queue_in}
 use Rattle.vnff_run.specs.Outcomes.{Outcome, outcome_in, outcome_of, refusal_line, refusal_words}
 
@@ -30,30 +30,30 @@ image next idx = 128 ∷ replicate 7 0 ++ (24 ∷ 0 ∷ 0 ∷ 0 ∷ 1 ∷ 0 ∷ 
     ++ (160 ∷ replicate 7 0) ++ (8 ∷ 0 ∷ 0 ∷ 0 ∷ 2 ∷ 0 ∷ 0 ∷ 0 ∷ []) ++ replicate 34 0 ++ (idx ∷ replicate 61 0) ++ (7 ∷ replicate 127 0)
 
 one_chain : drain_of "4" "0" "64" "80" (image 1 1) ≡ ends 0 "chain 0 070000000000000000000000000000000000000000000000 8\nend 1\n"
-unfolding drain_of ends image digits ones number_of le16_at le32_at le64_at descriptor_at with_le16 with_le32 with_used_entry setup_fault buffer_fault chain_from chain_of next_fault next_in_chain chain_line drained_chains drain_text end_line ring_fault_line place_from_words size_of form_of queue_in outcome_in refusal_line refusal_words
+unfolding drain_of ends image digits ones number_of le16_at le32_at le64_at descriptor_at with_le16 with_le32 with_used_entry setup_fault buffer_fault chain_from chain_of next_fault next_in_chain chain_line drained_chains drain_text end_line ring_fault_line place_from_words size_of word_form queue_in outcome_in refusal_line refusal_words
 one_chain = refl
 
 -- the first descriptor names itself
 loop : drain_of "4" "0" "64" "80" (image 0 1) ≡ ends 1 "refused image:0 loop\n"
-unfolding drain_of ends image digits ones number_of le16_at le32_at le64_at descriptor_at with_le16 with_le32 with_used_entry setup_fault buffer_fault chain_from chain_of next_fault next_in_chain chain_line drained_chains drain_text end_line ring_fault_line place_from_words size_of form_of queue_in outcome_in refusal_line refusal_words
+unfolding drain_of ends image digits ones number_of le16_at le32_at le64_at descriptor_at with_le16 with_le32 with_used_entry setup_fault buffer_fault chain_from chain_of next_fault next_in_chain chain_line drained_chains drain_text end_line ring_fault_line place_from_words size_of word_form queue_in outcome_in refusal_line refusal_words
 loop = refl
 
 -- five chains in a ring of four
 jump : drain_of "4" "0" "64" "80" (image 1 5) ≡ ends 1 "refused image:5 idxjump\n"
-unfolding drain_of ends image digits ones number_of le16_at le32_at le64_at descriptor_at with_le16 with_le32 with_used_entry setup_fault buffer_fault chain_from chain_of next_fault next_in_chain chain_line drained_chains drain_text end_line ring_fault_line place_from_words size_of form_of queue_in outcome_in refusal_line refusal_words
+unfolding drain_of ends image digits ones number_of le16_at le32_at le64_at descriptor_at with_le16 with_le32 with_used_entry setup_fault buffer_fault chain_from chain_of next_fault next_in_chain chain_line drained_chains drain_text end_line ring_fault_line place_from_words size_of word_form queue_in outcome_in refusal_line refusal_words
 jump = refl
 
 -- the available ring begins in the last descriptor
 overlap : drain_of "4" "0" "62" "80" (image 1 1) ≡ ends 1 "refused image overlap\n"
-unfolding drain_of ends image digits ones number_of setup_fault place_from_words size_of form_of queue_in outcome_in refusal_line refusal_words
+unfolding drain_of ends image digits ones number_of setup_fault place_from_words size_of word_form queue_in outcome_in refusal_line refusal_words
 overlap = refl
 
 area : drain_of "4" "0" "64" "224" (image 1 1) ≡ ends 1 "refused image area\n"
-unfolding drain_of ends image digits ones number_of setup_fault place_from_words size_of form_of queue_in outcome_in refusal_line refusal_words
+unfolding drain_of ends image digits ones number_of setup_fault place_from_words size_of word_form queue_in outcome_in refusal_line refusal_words
 area = refl
 
 no_power_of_two : drain_of "3" "0" "64" "80" (image 1 1) ≡ ends 2 ""
-unfolding drain_of ends image digits ones number_of place_from_words size_of form_of outcome_in
+unfolding drain_of ends image digits ones number_of place_from_words size_of word_form outcome_in
 no_power_of_two = refl
 
 -- two chains, of which the second one's buffer is the front of the used ring: it has what the first one left there
@@ -62,5 +62,5 @@ overlapping_image = 128 ∷ replicate 7 0 ++ (1 ∷ replicate 7 0) ++ (80 ∷ re
     ++ (2 ∷ 0 ∷ 0 ∷ 0 ∷ 1 ∷ replicate 57 0) ++ (7 ∷ replicate 127 0)
 
 over_the_used_ring : drain_of "4" "0" "64" "80" overlapping_image ≡ ends 0 "chain 0 07 0\nchain 1 000001000000000000000000 0\nend 2\n"
-unfolding drain_of ends overlapping_image digits ones number_of le16_at le32_at le64_at descriptor_at with_le16 with_le32 with_used_entry setup_fault buffer_fault chain_from chain_of next_fault next_in_chain chain_line drained_chains drain_text end_line ring_fault_line place_from_words size_of form_of queue_in outcome_in refusal_line refusal_words
+unfolding drain_of ends overlapping_image digits ones number_of le16_at le32_at le64_at descriptor_at with_le16 with_le32 with_used_entry setup_fault buffer_fault chain_from chain_of next_fault next_in_chain chain_line drained_chains drain_text end_line ring_fault_line place_from_words size_of word_form queue_in outcome_in refusal_line refusal_words
 over_the_used_ring = refl

@@ -7,7 +7,7 @@ use Rattle.vnff_base.specs.Lines.{NumberedLine, UnreadLines, unread_from, number
 use Rattle.vnff_base.specs.declared.text.Line.{Line}
 use Rattle.vnff_base.proofs.TextLaws.{numbered_from-numbers, length-lines-le}
 use Rattle.vnff_base.specs.Shelves.{file_limit}
-use Rattle.vnff_run.specs.Readings.{HasSmallNumbers, IsFaultOf, lines_from, numbered_words}
+use Rattle.vnff_run.specs.Readings.{HasSmallNumbers, IsScriptFault, lines_from, numbered_words}
 use Rattle.vnff_run.specs.Results.{◌>>=◌}
 use Rattle.vnff_run.specs.Grammar.{at_line, items_of}
 use Rattle.vnff_run.specs.ItemLines.{item_of}
@@ -61,12 +61,12 @@ unfolding items_of
 items_of-more items left lines line item cut is = rw (cut, is) (with_front-push items item (items_of lines))
 
 -- a fault of a first part is the whole's
-pub fault_of_first : {A B : Type 0} (fault : ScriptFault) (part : Result A (ℕ × Reason)) (next : A → Result B (ℕ × Reason)) → IsFaultOf part fault → IsFaultOf (part >>= next) fault
+pub fault_of_first : {A B : Type 0} (fault : ScriptFault) (part : Result A (ℕ × Reason)) (next : A → Result B (ℕ × Reason)) → IsScriptFault part fault → IsScriptFault (part >>= next) fault
 fault_of_first (faults.Bad line reason) part next is = ap (λ p. p >>= next) is
 fault_of_first faults.Memory part next is = tt
 
 -- a line is none, behind items
-pub items_of-stop : (fault : ScriptFault) (items : List Item) (left lines : List NumberedLine) (line : NumberedLine) (spelled : Result (List Item) (ℕ × Reason)) → left ≡ line ∷ lines → with_front items (items_of left) ≡ spelled → IsFaultOf (at_line line.number (item_of line.words)) fault → IsFaultOf spelled fault
+pub items_of-stop : (fault : ScriptFault) (items : List Item) (left lines : List NumberedLine) (line : NumberedLine) (spelled : Result (List Item) (ℕ × Reason)) → left ≡ line ∷ lines → with_front items (items_of left) ≡ spelled → IsScriptFault (at_line line.number (item_of line.words)) fault → IsScriptFault spelled fault
 unfolding items_of
 items_of-stop (faults.Bad number reason) items left lines line spelled cut same is = sym same ∙ rw (cut, is) refl
 items_of-stop faults.Memory items left lines line spelled cut same is = tt

@@ -9,7 +9,7 @@ use Rattle.split_queue.specs.declared.setup.SetupErr.{SetupErr}
 use Rattle.vnff_base.specs.Shelves.{Files, ShelfState}
 use Rattle.vnff_run.specs.Endings.{ReadStops, ReadsInput, script_stop}
 use Rattle.vnff_run.specs.Inputs.{InputFault, file_bytes, queue_in, queue_or_refusal, script_in, script_or_refusal}
-use Rattle.vnff_run.specs.Readings.{IsFaultOf}
+use Rattle.vnff_run.specs.Readings.{IsScriptFault}
 use Rattle.vnff_run.specs.Results.{◌>>=◌}
 use Rattle.vnff_run.specs.Grammar.{script_of}
 use Rattle.vnff_run.specs.declared.script.Script.{Script}
@@ -42,7 +42,7 @@ script_read shelf shelf_new name bytes text script read same is =
     (read.0, IfSome_then shelf.files read.1 (λ files is_there. ap (λ p. p >>= λ b. script_or_refusal (script_of b)) (is_there ∙ ap Ok (sym same)) ∙ ap script_or_refusal is))
 
 -- or they are refused, or memory runs out
-pub script_stops : (shelf shelf_new : ShelfState) (name bytes text : List ℕ) (fault : ScriptFault) → ReadsInput shelf shelf_new (file_bytes kinds.Script name) (Ok bytes) → text ≡ bytes → IsFaultOf (script_of text) fault → ReadStops shelf shelf_new (script_in name) (script_stop fault)
+pub script_stops : (shelf shelf_new : ShelfState) (name bytes text : List ℕ) (fault : ScriptFault) → ReadsInput shelf shelf_new (file_bytes kinds.Script name) (Ok bytes) → text ≡ bytes → IsScriptFault (script_of text) fault → ReadStops shelf shelf_new (script_in name) (script_stop fault)
 unfolding script_in
 script_stops shelf shelf_new name bytes text (faults.Bad line reason) read same is =
     (read.0, IfSome_then shelf.files read.1 (λ files is_there. ap (λ p. p >>= λ b. script_or_refusal (script_of b)) (is_there ∙ ap Ok (sym same)) ∙ ap script_or_refusal is))

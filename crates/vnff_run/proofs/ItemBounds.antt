@@ -17,11 +17,11 @@ use Rattle.vnff_base.specs.Numbers.{number_of}
 use Rattle.capture.specs.Sizes.{longest_frame}
 use Rattle.steer.specs.BenchPlaces.{most_command, most_room}
 use Rattle.vnff_run.specs.DeviceLines.{device_of, is_version}
-use Rattle.vnff_run.specs.Grammar.{after_version, at_line, device_in, items_of, script_of_lines, selectors_in, caps_with_selectors}
-use Rattle.vnff_run.specs.ItemLines.{IsWithin, admin_of, frame_of, item_of}
-use Rattle.vnff_run.specs.Readings.{IsFaultOf}
+use Rattle.vnff_run.specs.Grammar.{after_version, at_line, device_in, items_of, script_of_lines, first_selectors, caps_with_selectors}
+use Rattle.vnff_run.specs.ItemLines.{IsItemWithin, admin_of, frame_item, item_of}
+use Rattle.vnff_run.specs.Readings.{IsScriptFault}
 use Rattle.vnff_run.specs.Results.{◌>>=◌}
-use Rattle.vnff_run.specs.SelectLines.{is_select, selector_of}
+use Rattle.vnff_run.specs.SelectLines.{is_select, selector_in_line}
 use Rattle.vnff_run.specs.Words.{bytes_within, if_within, number_within}
 use Rattle.vnff_run.specs.declared.script.DeviceLine.{DeviceLine}
 use Rattle.vnff_run.specs.declared.script.Item.{Item}
@@ -66,7 +66,7 @@ bytes_bounds reason low high word bytes is =
     let parts = and_parts _ _ test.0 in
     subst (λ b. (low ≤ length b) × (length b ≤ high)) test.1 (leb-true low _ parts.0, leb-true _ high parts.1)
 
-admin_within : (words : List (List ℕ)) (item : Item) → admin_of words ≡ Ok item → IsWithin item
+admin_within : (words : List (List ℕ)) (item : Item) → admin_of words ≡ Ok item → IsItemWithin item
 unfolding admin_of
 admin_within [] item is = absurd (cc)
 admin_within (hex ∷ []) item is = absurd (cc)
@@ -76,57 +76,57 @@ admin_within (hex ∷ room ∷ []) item is =
     let command = bytes_bounds Hex 1 most_command hex bytes.0 bytes.1 in
     let space = number_bounds Room 0 most_room room number.0 number.1 in
     let same : Admin (record { bytes = bytes.0; room = number.0 }) ≡ item = cc in
-    subst IsWithin same (record { some = command.0; most = command.1; room = space.1 })
+    subst IsItemWithin same (record { some = command.0; most = command.1; room = space.1 })
 admin_within (hex ∷ room ∷ more ∷ words) item is = absurd (cc)
 
-frame_within : (words : List (List ℕ)) (item : Item) → frame_of words ≡ Ok item → IsWithin item
-unfolding frame_of
+frame_within : (words : List (List ℕ)) (item : Item) → frame_item words ≡ Ok item → IsItemWithin item
+unfolding frame_item
 frame_within [] item is = absurd (cc)
 frame_within (hex ∷ []) item is =
     let bytes = both_done (bytes_within Hex 0 longest_frame hex) _ item is in
     let same : Frame bytes.0 ≡ item = cc in
-    subst IsWithin same (bytes_bounds Hex 0 longest_frame hex bytes.0 bytes.1).1
+    subst IsItemWithin same (bytes_bounds Hex 0 longest_frame hex bytes.0 bytes.1).1
 frame_within (hex ∷ more ∷ words) item is = absurd (cc)
 
-either_within : (first second : Bool) (admin frame fault : Result Item Reason) (item : Item) → (admin ≡ Ok item → IsWithin item) → (frame ≡ Ok item → IsWithin item) → fault ≢ Ok item → (if first then admin else if second then frame else fault) ≡ Ok item → IsWithin item
+either_within : (first second : Bool) (admin frame fault : Result Item Reason) (item : Item) → (admin ≡ Ok item → IsItemWithin item) → (frame ≡ Ok item → IsItemWithin item) → fault ≢ Ok item → (if first then admin else if second then frame else fault) ≡ Ok item → IsItemWithin item
 either_within true second admin frame fault item one other none is = one is
 either_within false true admin frame fault item one other none is = other is
 either_within false false admin frame fault item one other none is = absurd (none is)
 
-item_within : (words : List (List ℕ)) (item : Item) → item_of words ≡ Ok item → IsWithin item
+item_within : (words : List (List ℕ)) (item : Item) → item_of words ≡ Ok item → IsItemWithin item
 unfolding item_of
 item_within [] item is = absurd (cc)
 item_within (name ∷ words) item is =
-    either_within (bytes_eq name (codes "admin")) (bytes_eq name (codes "frame")) (admin_of words) (frame_of words) (Err Word) item (admin_within words item) (frame_within words item) (λ e. absurd (cc)) is
+    either_within (bytes_eq name (codes "admin")) (bytes_eq name (codes "frame")) (admin_of words) (frame_item words) (Err Word) item (admin_within words item) (frame_within words item) (λ e. absurd (cc)) is
 
 at_line-ok : {A : Type 0} (number : ℕ) (spelled : Result A Reason) (value : A) → at_line number spelled ≡ Ok value → spelled ≡ Ok value
 at_line-ok number (Ok x) value is = cc
 at_line-ok number (Err reason) value is = absurd (cc)
 
-items_within : (lines : List NumberedLine) (items : List Item) → items_of lines ≡ Ok items → All IsWithin items
+items_within : (lines : List NumberedLine) (items : List Item) → items_of lines ≡ Ok items → All IsItemWithin items
 unfolding items_of
 items_within [] items is =
     let same : [] ≡ items = cc in
-    subst (All IsWithin) same (All-nil IsWithin)
+    subst (All IsItemWithin) same (All-nil IsItemWithin)
 items_within (line ∷ lines) items is =
     let first = both_done (at_line line.number (item_of line.words)) _ items is in
     let more = both_done (items_of lines) _ items first.2 in
     let same : first.0 ∷ more.0 ≡ items = cc in
-    subst (All IsWithin) same (All-cons IsWithin first.0 more.0 (item_within line.words first.0 (at_line-ok line.number _ first.0 first.1)) (items_within lines more.0 more.1))
+    subst (All IsItemWithin) same (All-cons IsItemWithin first.0 more.0 (item_within line.words first.0 (at_line-ok line.number _ first.0 first.1)) (items_within lines more.0 more.1))
 
 -- the items of a script that lines spell
-script_within : (missing : ℕ) (lines : List NumberedLine) (script : Script) → script_of_lines missing lines ≡ Ok script → All IsWithin script.items
+script_within : (missing : ℕ) (lines : List NumberedLine) (script : Script) → script_of_lines missing lines ≡ Ok script → All IsItemWithin script.items
 unfolding script_of_lines
 script_within missing lines script is =
     let behind = both_done (after_version missing lines) _ script is in
     let device = both_done (device_in missing behind.0) _ script behind.2 in
-    let selected = both_done (selectors_in 0 device.0.1) _ script device.2 in
+    let selected = both_done (first_selectors 0 device.0.1) _ script device.2 in
     let items = both_done (items_of selected.0.1) _ script selected.2 in
     let same : record { caps = caps_with_selectors device.0.0.caps selected.0.0; start = device.0.0.start; items = items.0 } ≡ script = cc in
-    subst (λ (s : Script). All IsWithin s.items) same (items_within selected.0.1 items.0 items.1)
+    subst (λ (s : Script). All IsItemWithin s.items) same (items_within selected.0.1 items.0 items.1)
 
 -- and of what a reader of lines gives
-pub read_within : (read : Result Script ScriptFault) (missing : ℕ) (lines : List NumberedLine) → MatchResult read (λ script. script_of_lines missing lines ≡ Ok script) (IsFaultOf (script_of_lines missing lines)) → IfOk read (λ script. All IsWithin script.items)
+pub read_within : (read : Result Script ScriptFault) (missing : ℕ) (lines : List NumberedLine) → MatchResult read (λ script. script_of_lines missing lines ≡ Ok script) (IsScriptFault (script_of_lines missing lines)) → IfOk read (λ script. All IsItemWithin script.items)
 read_within (Ok script) missing lines is = script_within missing lines script is
 read_within (Err fault) missing lines is = tt
 
@@ -166,16 +166,16 @@ select_or : (test : Bool) (stop more : Result (List SelectorParts × List Number
 select_or true stop more value is = inr is
 select_or false stop more value is = inl is
 
-behind_selectors : (last : ℕ) (lines : List NumberedLine) (selected : List SelectorParts × List NumberedLine) → selectors_in last lines ≡ Ok selected → length selected.1 ≤ length lines
-unfolding selectors_in
+behind_selectors : (last : ℕ) (lines : List NumberedLine) (selected : List SelectorParts × List NumberedLine) → first_selectors last lines ≡ Ok selected → length selected.1 ≤ length lines
+unfolding first_selectors
 behind_selectors last [] selected is =
     let same : ([], []) ≡ selected = cc in
     subst (λ (found : List SelectorParts × List NumberedLine). length found.1 ≤ 0) same (omega arith)
 behind_selectors last (line ∷ lines) selected is =
     ⊎_elim
     (λ stop. let same : ([], line ∷ lines) ≡ selected = cc in subst (λ (found : List SelectorParts × List NumberedLine). length found.1 ≤ length (line ∷ lines)) same (omega arith))
-    (λ more. let selector = both_done (at_line line.number (selector_of last (drop 1 line.words))) _ selected more in
-    let rest = both_done (selectors_in (kind_code selector.0.kind) lines) _ selected selector.2 in
+    (λ more. let selector = both_done (at_line line.number (selector_in_line last (drop 1 line.words))) _ selected more in
+    let rest = both_done (first_selectors (kind_code selector.0.kind) lines) _ selected selector.2 in
     let same : (selector.0 ∷ rest.0.0, rest.0.1) ≡ selected = cc in
     subst (λ (found : List SelectorParts × List NumberedLine). length found.1 ≤ length (line ∷ lines)) same (omega (arith, behind_selectors (kind_code selector.0.kind) lines rest.0 rest.1)))
     (select_or (is_select line.words) (Ok ([], line ∷ lines)) _ selected is)
@@ -185,7 +185,7 @@ unfolding script_of_lines
 script_few missing lines script is =
     let behind = both_done (after_version missing lines) _ script is in
     let device = both_done (device_in missing behind.0) _ script behind.2 in
-    let selected = both_done (selectors_in 0 device.0.1) _ script device.2 in
+    let selected = both_done (first_selectors 0 device.0.1) _ script device.2 in
     let items = both_done (items_of selected.0.1) _ script selected.2 in
     let same : record { caps = caps_with_selectors device.0.0.caps selected.0.0; start = device.0.0.start; items = items.0 } ≡ script = cc in
     subst (λ (s : Script). length s.items ≤ length lines) same
@@ -202,7 +202,7 @@ numbered_few from (line ∷ text) =
     omega (arith, skipped_or (is_skipped words) (record { number = from; words = words }) (numbered_from (from + 1) text) (length text) (numbered_few (from + 1) text))
 
 -- a text has no more items than bytes
-pub read_few : (text : List ℕ) (unread : UnreadLines) (read : Result Script ScriptFault) → unread ≡ unread_from 1 text → MatchResult read (λ script. script_of_lines unread.missing unread.left ≡ Ok script) (IsFaultOf (script_of_lines unread.missing unread.left)) → IfOk read (λ script. length script.items ≤ length text)
+pub read_few : (text : List ℕ) (unread : UnreadLines) (read : Result Script ScriptFault) → unread ≡ unread_from 1 text → MatchResult read (λ script. script_of_lines unread.missing unread.left ≡ Ok script) (IsScriptFault (script_of_lines unread.missing unread.left)) → IfOk read (λ script. length script.items ≤ length text)
 read_few text unread (Ok script) all is =
     let left : length unread.left ≤ length (lines text) = rw all (numbered_few 1 (lines text)) in
     omega (arith, script_few unread.missing unread.left script is, left, length-lines-le text)

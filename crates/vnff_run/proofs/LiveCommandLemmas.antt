@@ -3,7 +3,7 @@ use Rattle.std.proofs.Common.{◌≡◌, ◌≤◌, List, [], ◌∷◌, ◌++�
 use Rattle.std.specs.List.{All}
 use Rattle.std.proofs.lemmas.List.Elements.{All-nil, All-cons, All-head, All-tail, filter_map-append}
 use Rattle.steer.specs.declared.admin_line.AdminLine.{AdminLine}
-use Rattle.vnff_run.specs.ItemLines.{IsCommandWithin, IsWithin}
+use Rattle.vnff_run.specs.ItemLines.{IsCommandWithin, IsItemWithin}
 use Rattle.vnff_run.specs.LiveRuns.{admin_line_in, commands_in}
 use Rattle.vnff_run.specs.declared.script.Item.{Item}
 use Rattle.vnff_run.specs.declared.script.Item.TheVariants.{Admin, Frame}
@@ -20,8 +20,8 @@ few_commands (Admin line ∷ items) = omega (arith, few_commands items)
 few_commands (Frame frame ∷ items) = omega (arith, few_commands items)
 
 -- and within their limits where the items are
-pub commands_within : (items : List Item) → All IsWithin items → All IsCommandWithin (commands_in items)
+pub commands_within : (items : List Item) → All IsItemWithin items → All IsCommandWithin (commands_in items)
 commands_within [] within = All-nil IsCommandWithin
 commands_within (Admin line ∷ items) within =
-    All-cons IsCommandWithin line (commands_in items) (All-head IsWithin (Admin line) items within) (commands_within items (All-tail IsWithin (Admin line) items within))
-commands_within (Frame frame ∷ items) within = commands_within items (All-tail IsWithin (Frame frame) items within)
+    All-cons IsCommandWithin line (commands_in items) (All-head IsItemWithin (Admin line) items within) (commands_within items (All-tail IsItemWithin (Admin line) items within))
+commands_within (Frame frame ∷ items) within = commands_within items (All-tail IsItemWithin (Frame frame) items within)

@@ -6,7 +6,7 @@ use Rattle.std.proofs.Math.Seq.{take-append_seam}
 use Rattle.std.proofs.lemmas.Bool.{cond-false}
 use Rattle.std.proofs.lemmas.List.Elements.{All-head, All-tail}
 use Rattle.std.proofs.lemmas.List.Sums.{fold-append}
-use Rattle.vnff_base.specs.Bytes.{IsBytes}
+use Rattle.byte_numbers.specs.Bytes.{IsBytes}
 use Rattle.ff_headers.specs.Changes.{after, step}
 use Rattle.ff_headers.specs.Frames.{headers_of}
 use Rattle.ff_headers.specs.Objects.{FlowObjects, no_objects}

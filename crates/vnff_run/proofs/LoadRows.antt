@@ -8,7 +8,7 @@ use Rattle.generated_load.specs.DrawnFrames.{drawn_datagram, drawn_frame, drawn_
 use Rattle.generated_load.specs.DrawnTables.{drawn_criteria, drawn_spec, drawn_specs, drawn_table, ip_criteria, tcp_criteria, udp_criteria}
 use Rattle.ntuple_compile.specs.SpecFits.{spec_fits, specs_action}
 use Rattle.vnff_base.specs.Numbers.{number_of}
-use Rattle.vnff_run.specs.Forms.{form_of, load_of}
+use Rattle.vnff_run.specs.Forms.{word_form, load_of}
 use Rattle.vnff_run.specs.LoadWords.{frame_count_of}
 use Rattle.vnff_run.specs.Loads.{count_line, gen_text, number_end, queue_line, summary_text}
 use Rattle.vnff_run.specs.Outcomes.{outcome_of}
@@ -20,5 +20,5 @@ three_frames = refl
 
 -- a number of frames out of its range is no form
 no_frames : outcome_of (codes "gen" ∷ codes "1" ∷ codes "0" ∷ []) (λ _. None) ≡ record { status = 2; text = [] }
-unfolding form_of load_of frame_count_of number_of digits
+unfolding word_form load_of frame_count_of number_of digits
 no_frames = refl

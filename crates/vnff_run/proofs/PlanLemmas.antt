@@ -11,7 +11,7 @@ use Rattle.cap_table.specs.States.{start_state}
 use Rattle.steer.specs.LiveRuns.{accepted_changes}
 use Rattle.steer.proofs.LegalRuns.{last_line, legal_run, machine_replies}
 use Rattle.vnff_run.specs.Endings.{Appended, AppendedFront, IsStatusOf, IsStatusOfStop, NoReadFailed, NoWriteFailed, ReadFailed, ReadStops, ReadsInput, WhereTold, WriteFailed}
-use Rattle.vnff_run.specs.Forms.{WordForm, form_of}
+use Rattle.vnff_run.specs.Forms.{WordForm, word_form}
 use Rattle.vnff_run.specs.SteerInputs.{is_steer, steering_by, steering_of}
 use Rattle.vnff_run.specs.Steering.{Steering}
 use Rattle.rx_sinks.specs.Sinks.{SinkState}
@@ -213,8 +213,8 @@ live_stops sink steers shelf read out new words stops.Memory status why is =
 -- ---- words
 
 -- the words of a live run are no other form
-pub live_words_alone : (words : List (List ℕ)) (live : LiveWords) → live_of words ≡ Some live → form_of words ≡ None
-unfolding live_of form_of
+pub live_words_alone : (words : List (List ℕ)) (live : LiveWords) → live_of words ≡ Some live → word_form words ≡ None
+unfolding live_of word_form
 live_words_alone [] live is = absurd (cc)
 live_words_alone (a ∷ []) live is = absurd (cc)
 live_words_alone (a ∷ b ∷ []) live is = absurd (cc)
@@ -266,10 +266,10 @@ plan_of_plain sink steers shelf read out new words status is known nothing done 
     })
 
 -- what words of no steering leave: each sink
-pub no_steering : (old new : List SinkState) (shelf : ShelfState) (words : List (List ℕ)) (P : Steering → Type 0) → form_of words ≡ None → new ≡ old → IfSome shelf.files (λ files. MatchOption (steering_of words files) (new ≡ old) P)
+pub no_steering : (old new : List SinkState) (shelf : ShelfState) (words : List (List ℕ)) (P : Steering → Type 0) → word_form words ≡ None → new ≡ old → IfSome shelf.files (λ files. MatchOption (steering_of words files) (new ≡ old) P)
 no_steering old new shelf words P none same =
     where_told shelf.files (λ files. subst (λ (form : Option WordForm). MatchOption (steering_by form files) (new ≡ old) P) (sym none) same)
 
 -- and they are none
-pub no_steer : (words : List (List ℕ)) → form_of words ≡ None → is_steer (form_of words) ≡ false
+pub no_steer : (words : List (List ℕ)) → word_form words ≡ None → is_steer (word_form words) ≡ false
 no_steer words none = ap is_steer none

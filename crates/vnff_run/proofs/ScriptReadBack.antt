@@ -17,10 +17,10 @@ use Rattle.vnff_base.specs.Lines.{NumberedLine, line_count}
 use Rattle.cap_table.specs.Caps.{AreCaps, CapsParts, all_selectors}
 use Rattle.cap_table.specs.declared.start.Start.{Start}
 use Rattle.vnff_run.specs.DeviceLines.{caps_of, device_of, is_version}
-use Rattle.vnff_run.specs.Grammar.{after_version, device_in, items_of, script_of, script_of_lines, selectors_in, caps_with_selectors}
-use Rattle.vnff_run.specs.ItemLines.{admin_of, frame_of, item_of}
+use Rattle.vnff_run.specs.Grammar.{after_version, device_in, items_of, script_of, script_of_lines, first_selectors, caps_with_selectors}
+use Rattle.vnff_run.specs.ItemLines.{admin_of, frame_item, item_of}
 use Rattle.vnff_run.specs.ScriptTexts.{device_words, is_selector, item_words, script_lines, script_text, select_words, selector_lines, version_words}
-use Rattle.vnff_run.specs.SelectLines.{is_select, selector_of}
+use Rattle.vnff_run.specs.SelectLines.{is_select, selector_in_line}
 use Rattle.vnff_run.specs.Spellable.{IsCommand, IsFrame, IsItem, IsNamed, IsSpellable}
 use Rattle.steer.specs.declared.admin_line.AdminLine.{AdminLine}
 use Rattle.vnff_run.specs.declared.script.Item.{Item}
@@ -89,8 +89,8 @@ codes-above [] = All-nil (λ code. 0 < code)
 codes-above (selector ∷ selectors) =
     All-cons (λ code. 0 < code) (kind_code selector.kind) (codes_of selectors) (code-above selector.kind) (codes-above selectors)
 
-selector-read : (last : ℕ) (selector : SelectorParts) → last < kind_code selector.kind → IsWhole selector → IsNamed selector → selector_of last (drop 1 (select_words selector)) ≡ Ok selector
-unfolding selector_of select_words
+selector-read : (last : ℕ) (selector : SelectorParts) → last < kind_code selector.kind → IsWhole selector → IsNamed selector → selector_in_line last (drop 1 (select_words selector)) ≡ Ok selector
+unfolding selector_in_line select_words
 selector-read last selector above whole named =
     let size = kind_size selector.kind in
     rw (kind-read selector.kind, flags-read selector.flags named.flags, bytes-read reasons.Select size size selector.mask named.mask (omega (arith, whole)) (omega (arith, whole))) (cond-true _ _ _ (lt-ltb last (kind_code selector.kind) above))
@@ -100,14 +100,14 @@ unfolding is_select select_words
 select-begins selector = refl
 
 -- no line of an item names a selector
-items-begin : (last from : ℕ) (items : List Item) → selectors_in last (numbered_words from (map item_words items)) ≡ Ok ([], numbered_words from (map item_words items))
-unfolding selectors_in is_select item_words
+items-begin : (last from : ℕ) (items : List Item) → first_selectors last (numbered_words from (map item_words items)) ≡ Ok ([], numbered_words from (map item_words items))
+unfolding first_selectors is_select item_words
 items-begin last from [] = refl
 items-begin last from (Admin line ∷ items) = refl
 items-begin last from (Frame frame ∷ items) = refl
 
-selectors-read : (last from : ℕ) (selectors : List SelectorParts) (items : List Item) → IsStrictlyIncreasing (last ∷ codes_of selectors) → All IsWhole selectors → All IsNamed selectors → selectors_in last (numbered_words from (map select_words selectors ++ map item_words items)) ≡ Ok (selectors, numbered_words (from + length selectors) (map item_words items))
-unfolding selectors_in
+selectors-read : (last from : ℕ) (selectors : List SelectorParts) (items : List Item) → IsStrictlyIncreasing (last ∷ codes_of selectors) → All IsWhole selectors → All IsNamed selectors → first_selectors last (numbered_words from (map select_words selectors ++ map item_words items)) ≡ Ok (selectors, numbered_words (from + length selectors) (map item_words items))
+unfolding first_selectors
 selectors-read last from [] items rising whole named = items-begin last from items ∙ ap (λ n. Ok ([], numbered_words n (map item_words items))) (omega arith)
 selectors-read last from (selector ∷ selectors) items rising whole named =
     let above : last < kind_code selector.kind = rising 0 (omega arith) in
@@ -122,7 +122,7 @@ admin-read line good =
     rw (bytes-read reasons.Hex 1 1024 line.bytes good.bytes good.within.some good.within.most, number-read reasons.Room 0 4096 line.room (omega arith) good.within.room (omega (arith, good.within.room))) refl
 
 frame-read : (frame : List ℕ) → IsFrame frame → item_of (item_words (Frame frame)) ≡ Ok (Frame frame)
-unfolding item_of frame_of item_words
+unfolding item_of frame_item item_words
 frame-read frame good = rw (bytes-read reasons.Hex 0 262144 frame good.bytes (omega arith) good.most) refl
 
 item-read : (item : Item) → IsItem item → item_of (item_words item) ≡ Ok item
@@ -185,13 +185,13 @@ record IsSelected (script : Script) (first : Result (List SelectorParts × List 
   read : first ≡ Ok (selectors, numbered_words from (map item_words script.items))
   same : caps_with_selectors (bare script.caps) selectors ≡ script.caps
 
-selected-read : (script : Script) → IsSpellable script → IsSelected script (selectors_in 0 (numbered_words 3 (selector_lines script.caps.selectors ++ map item_words script.items)))
+selected-read : (script : Script) → IsSpellable script → IsSelected script (first_selectors 0 (numbered_words 3 (selector_lines script.caps.selectors ++ map item_words script.items)))
 unfolding selector_lines
 selected-read script good =
     let selectors = script.caps.selectors in
     let items = map item_words script.items in
     let test = pointwise is_selector selectors all_selectors in
-    let read : List (List (List ℕ)) → Result (List SelectorParts × List NumberedLine) (ℕ × Reason) = λ front. selectors_in 0 (numbered_words 3 (front ++ items)) in
+    let read : List (List (List ℕ)) → Result (List SelectorParts × List NumberedLine) (ℕ × Reason) = λ front. first_selectors 0 (numbered_words 3 (front ++ items)) in
     ⊎_elim (λ all. record {
       selectors = [];
       from = 3;

@@ -14,10 +14,10 @@ use Rattle.ff_headers.specs.declared.kind.Kind.TheVariants.{Eth, Ipv4, Ipv6, Tcp
 use Rattle.cap_table.specs.Caps.{AreSelectors}
 use Rattle.vnff_base.specs.Lines.{NumberedLine}
 use Rattle.vnff_run.proofs.GrammarLemmas.{small_first, small_rest}
-use Rattle.vnff_run.specs.Grammar.{at_line, selectors_in}
-use Rattle.vnff_run.specs.Readings.{IsFaultOf}
+use Rattle.vnff_run.specs.Grammar.{at_line, first_selectors}
+use Rattle.vnff_run.specs.Readings.{IsScriptFault}
 use Rattle.vnff_run.specs.Results.{◌>>=◌}
-use Rattle.vnff_run.specs.SelectLines.{is_select, selector_of}
+use Rattle.vnff_run.specs.SelectLines.{is_select, selector_in_line}
 use Rattle.vnff_run.specs.declared.script.Reason.{Reason}
 use Rattle.vnff_run.specs.declared.script.ScriptFault.{ScriptFault}
 use Rattle.vnff_run.specs.declared.script.ScriptFault.TheVariants as faults
@@ -82,27 +82,27 @@ selectors_then-none (Ok more) = refl
 selectors_then-none (Err fault) = refl
 
 -- one more line names a selector
-pub selectors_in-more : (last number : ℕ) (selectors : List SelectorParts) (left lines : List NumberedLine) (words rest : List (List ℕ)) (selector : SelectorParts) → left ≡ record { number = number; words = words } ∷ lines → is_select words ≡ true → drop 1 words ≡ rest → at_line number (selector_of last rest) ≡ Ok selector → selectors_then selectors (selectors_in last left) ≡ selectors_then (selectors ++ selector ∷ []) (selectors_in (kind_code selector.kind) lines)
-unfolding selectors_in
-selectors_in-more last number selectors left lines words rest selector cut begins cut_words is =
-    rw (cut, begins, cut_words, is) (selectors_then-push selectors selector (selectors_in (kind_code selector.kind) lines))
+pub first_selectors-more : (last number : ℕ) (selectors : List SelectorParts) (left lines : List NumberedLine) (words rest : List (List ℕ)) (selector : SelectorParts) → left ≡ record { number = number; words = words } ∷ lines → is_select words ≡ true → drop 1 words ≡ rest → at_line number (selector_in_line last rest) ≡ Ok selector → selectors_then selectors (first_selectors last left) ≡ selectors_then (selectors ++ selector ∷ []) (first_selectors (kind_code selector.kind) lines)
+unfolding first_selectors
+first_selectors-more last number selectors left lines words rest selector cut begins cut_words is =
+    rw (cut, begins, cut_words, is) (selectors_then-push selectors selector (first_selectors (kind_code selector.kind) lines))
 
 -- a line names none
-pub selectors_in-stop : (fault : ScriptFault) (last number : ℕ) (selectors : List SelectorParts) (left lines : List NumberedLine) (words rest : List (List ℕ)) (spelled : Result (List SelectorParts × List NumberedLine) (ℕ × Reason)) → left ≡ record { number = number; words = words } ∷ lines → is_select words ≡ true → drop 1 words ≡ rest → selectors_then selectors (selectors_in last left) ≡ spelled → IsFaultOf (at_line number (selector_of last rest)) fault → IsFaultOf spelled fault
-unfolding selectors_in
-selectors_in-stop (faults.Bad at reason) last number selectors left lines words rest spelled cut begins cut_words same is =
+pub first_selectors-stop : (fault : ScriptFault) (last number : ℕ) (selectors : List SelectorParts) (left lines : List NumberedLine) (words rest : List (List ℕ)) (spelled : Result (List SelectorParts × List NumberedLine) (ℕ × Reason)) → left ≡ record { number = number; words = words } ∷ lines → is_select words ≡ true → drop 1 words ≡ rest → selectors_then selectors (first_selectors last left) ≡ spelled → IsScriptFault (at_line number (selector_in_line last rest)) fault → IsScriptFault spelled fault
+unfolding first_selectors
+first_selectors-stop (faults.Bad at reason) last number selectors left lines words rest spelled cut begins cut_words same is =
     sym same ∙ rw (cut, begins, cut_words, is) refl
-selectors_in-stop faults.Memory last number selectors left lines words rest spelled cut begins cut_words same is = tt
+first_selectors-stop faults.Memory last number selectors left lines words rest spelled cut begins cut_words same is = tt
 
 -- the line behind the last one that names a selector
-pub selectors_in-other : (last number : ℕ) (selectors : List SelectorParts) (left lines : List NumberedLine) (words : List (List ℕ)) → left ≡ record { number = number; words = words } ∷ lines → is_select words ≡ false → selectors_then selectors (selectors_in last left) ≡ Ok (selectors, record { number = number; words = words } ∷ lines)
-unfolding selectors_in
-selectors_in-other last number selectors left lines words cut other =
+pub first_selectors-other : (last number : ℕ) (selectors : List SelectorParts) (left lines : List NumberedLine) (words : List (List ℕ)) → left ≡ record { number = number; words = words } ∷ lines → is_select words ≡ false → selectors_then selectors (first_selectors last left) ≡ Ok (selectors, record { number = number; words = words } ∷ lines)
+unfolding first_selectors
+first_selectors-other last number selectors left lines words cut other =
     rw (cut, other) (ap (λ all. Ok (all, record { number = number; words = words } ∷ lines)) (append-nil selectors))
 
 -- no line is left
-pub selectors_in-end : (last : ℕ) (selectors : List SelectorParts) (left : List NumberedLine) → left ≡ [] → selectors_then selectors (selectors_in last left) ≡ Ok (selectors, [])
-unfolding selectors_in
-selectors_in-end last selectors left none = rw none (ap (λ all. Ok (all, [])) (append-nil selectors))
+pub first_selectors-end : (last : ℕ) (selectors : List SelectorParts) (left : List NumberedLine) → left ≡ [] → selectors_then selectors (first_selectors last left) ≡ Ok (selectors, [])
+unfolding first_selectors
+first_selectors-end last selectors left none = rw none (ap (λ all. Ok (all, [])) (append-nil selectors))
 
-pub ruleset select_steps = (small_first, small_rest, none_rise, one_more_rises, few_codes, selectors_then-none, selectors_in-more, selectors_in-stop, selectors_in-other, selectors_in-end)
+pub ruleset select_steps = (small_first, small_rest, none_rise, one_more_rises, few_codes, selectors_then-none, first_selectors-more, first_selectors-stop, first_selectors-other, first_selectors-end)

@@ -6,7 +6,7 @@ use Rattle.vnff_base.specs.Counts.{Rose}
 use Rattle.vnff_base.specs.Shelves.{Files, ShelfState}
 use Rattle.cap_table.specs.Caps.{CapsParts}
 use Rattle.ntuple_text.specs.TableMaps.{TableMap}
-use Rattle.ntuple_compile.specs.Compiled.{IsFaultOf, compiled}
+use Rattle.ntuple_compile.specs.Compiled.{IsCompileFault, compiled}
 use Rattle.ntuple_compile.specs.declared.error.CompileErr.{CompileErr}
 use Rattle.ntuple_compile.specs.declared.error.CompileErr.TheVariants as errors
 use Rattle.vnff_run.specs.Endings.{JudgeStops, Judges, ReadStops, ReadsInput}
@@ -67,7 +67,7 @@ frames_stop shelf middle read part name make value stop was same why =
     (read_stops middle read (frames_in name) (λ files frames. Ok (make value frames)) stop why)
 
 -- why a table can't be compiled ends a form with its refusal, unless memory ran out
-pub compiled_stops : (caps : CapsParts) (table : TableMap) (err : CompileErr) → IsFaultOf (compiled table caps) err → JudgeStops (compiled_for caps table) (compile_stop err)
+pub compiled_stops : (caps : CapsParts) (table : TableMap) (err : CompileErr) → IsCompileFault (compiled table caps) err → JudgeStops (compiled_for caps table) (compile_stop err)
 unfolding compiled_for
 compiled_stops caps table (errors.Unsupported loc kind) is = ap (λ r. commands_or_refusal r >>= λ commands. Ok (record { caps = caps; table = table; commands = commands })) is
 compiled_stops caps table (errors.Rules count) is = ap (λ r. commands_or_refusal r >>= λ commands. Ok (record { caps = caps; table = table; commands = commands })) is

@@ -6,7 +6,7 @@ use Rattle.ff_headers.specs.declared.kind.Kind.TheVariants.{Ipv4}
 use Rattle.cap_table.specs.Caps.{CapsParts, all_selectors}
 use Rattle.capture.specs.declared.error.CaptureErr.TheVariants.{Truncated, LinkType}
 use Rattle.ntuple_text.specs.Keys.{field_name, flow_word}
-use Rattle.ntuple_text.specs.SpecTexts.{action_words, field_text, field_word, fields_of, loc_words, mask_text, options_text, part_text, queue_words, spec_text, type_text, value_text}
+use Rattle.ntuple_text.specs.SpecTexts.{action_words, field_text, field_word, flow_fields, loc_words, mask_text, options_text, part_text, queue_words, spec_text, type_text, value_text}
 use Rattle.ntuple_text.specs.TableMaps.{TableMap}
 use Rattle.ntuple_text.specs.declared.spec.Flow.TheVariants.{Ether, Ip4, Tcp4}
 use Rattle.ntuple_text.specs.declared.spec.Spec.{Spec}
@@ -15,7 +15,7 @@ use Rattle.ntuple_compile.specs.Compiled.{creates_of, objects_of}
 use Rattle.ntuple_compile.specs.Selected.{key_for, key_part, mask_for, selectors_of}
 use Rattle.ntuple_compile.specs.SpecFits.{spec_fits, specs_action}
 use Rattle.vnff_run.specs.CompileTexts.{command_line, comment_line, compile_text, device_text}
-use Rattle.vnff_run.specs.Forms.{form_of}
+use Rattle.vnff_run.specs.Forms.{word_form}
 use Rattle.vnff_run.specs.Outcomes.{outcome_in, outcome_of, fault_words, refusal_line, refusal_words}
 use Rattle.vnff_run.specs.Replay.{action_text}
 use Rattle.vnff_run.specs.ScriptTexts.{device_words, item_words, selector_lines}
@@ -77,12 +77,12 @@ abbrev arp : Spec
 arp = record { flow = Ether; src = None; dst = None; proto = Some (record { value = 0x0806; skip = 0 }); class = None; src_port = None; dst_port = None; action = Queue 3; loc = 1023 }
 
 arp_in_words : comment_line arp ≡ codes "# flow-type ether proto 0x0806 action 3 loc 1023\n"
-unfolding comment_line spec_text flow_word options_text fields_of field_text part_text field_word field_name value_text type_text mask_text action_words queue_words loc_words digits
+unfolding comment_line spec_text flow_word options_text flow_fields field_text part_text field_word field_name value_text type_text mask_text action_words queue_words loc_words digits
 arp_in_words = refl
 
 -- the whole script of this spec
 a_spec_compiled : compile_text (record { caps = some_device; table = table_with (arp ∷ []); commands = creates_of (objects_of some_device.limits (arp ∷ [])) }) ≡ codes "vnff 1\ndevice 4 2 4 8 8 15 3 ready\n# flow-type ether proto 0x0806 action 3 loc 1023\nadmin 0a0000000000000000000000000000000000000000000000000200000000000000000000000000000000 8\nadmin 0a0000000000000000000000000000000000000000000000010200000000000000000000000000000100000000000000010000000e000000000000000000000000000000ffff 8\nadmin 0a0000000000000000000000000000000000000000000000020200000000000000000000000000000000000000000000000e0200060000000000000000000000000000000806 8\n"
-unfolding compile_text device_text device_words selector_lines comment_line spec_text flow_word options_text fields_of field_text part_text field_word field_name value_text type_text mask_text action_words queue_words loc_words command_line item_words creates_of objects_of selectors_of key_for mask_for key_part digits
+unfolding compile_text device_text device_words selector_lines comment_line spec_text flow_word options_text flow_fields field_text part_text field_word field_name value_text type_text mask_text action_words queue_words loc_words command_line item_words creates_of objects_of selectors_of key_for mask_for key_part digits
 a_spec_compiled = refl
 
 -- flow-type tcp4 src-ip 10.0.0.0 m 0.0.0.255 dst-port 80 action 2 loc 5
@@ -112,10 +112,10 @@ three_packets = refl
 
 -- a shelf without a file: the form reads the device first
 no_files : outcome_of (codes "table" ∷ codes "d" ∷ codes "t" ∷ codes "c" ∷ []) (λ _. None) ≡ record { status = 3; text = [] }
-unfolding form_of outcome_in table_run_in compiled_in caps_in
+unfolding word_form outcome_in table_run_in compiled_in caps_in
 no_files = refl
 
 -- words of no form
 two_files : outcome_of (codes "compile" ∷ codes "d" ∷ []) (λ _. None) ≡ record { status = 2; text = [] }
-unfolding form_of
+unfolding word_form
 two_files = refl

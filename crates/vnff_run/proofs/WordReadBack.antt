@@ -5,7 +5,7 @@ use Rattle.std.specs.Option.{ok_or, option_and_then}
 use Rattle.std.proofs.lemmas.Bool.{and_from, cond-true, le-leb}
 use Rattle.ff_headers.specs.declared.kind.Kind.{Kind}
 use Rattle.ff_headers.specs.declared.kind.Kind.TheVariants.{Eth, Ipv4, Ipv6, Tcp, Udp}
-use Rattle.vnff_base.specs.Bytes.{IsBytes}
+use Rattle.byte_numbers.specs.Bytes.{IsBytes}
 use Rattle.vnff_base.specs.Hex.{hex_text}
 use Rattle.vnff_base.proofs.HexLemmas.{hex_bytes-hex_text}
 use Rattle.vnff_base.proofs.NumberLemmas.{number_of-decimal}

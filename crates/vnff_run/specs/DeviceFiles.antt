@@ -3,7 +3,7 @@ use Rattle.std.specs.Prelude.{ℕ, ◌+◌, List, [], ◌∷◌, Result, Ok, Err
 use Rattle.vnff_base.specs.Lines.{NumberedLine, line_count, word_lines}
 use Rattle.cap_table.specs.declared.start.Start.{Start}
 use Rattle.cap_table.specs.declared.start.Start.TheVariants.{Ready, Reset}
-use Rattle.vnff_run.specs.Grammar.{after_version, at_line, device_in, selectors_in, caps_with_selectors}
+use Rattle.vnff_run.specs.Grammar.{after_version, at_line, device_in, first_selectors, caps_with_selectors}
 use Rattle.vnff_run.specs.Results.{◌>>=◌}
 use Rattle.vnff_run.specs.declared.script.Item.{Item}
 use Rattle.vnff_run.specs.declared.script.Reason.{Reason}
@@ -30,7 +30,7 @@ unfoldable pub device_file_of_lines : ℕ → List NumberedLine → Result Scrip
 device_file_of_lines missing lines = do
   behind ← after_version missing lines
   device ← device_in missing behind
-  selected ← selectors_in 0 device.1
+  selected ← first_selectors 0 device.1
   items ← no_item selected.1
   start ← at_line (first_number missing behind) (ready_start device.0.start)
   Ok (record { caps = caps_with_selectors device.0.caps selected.0; start = start; items = items })

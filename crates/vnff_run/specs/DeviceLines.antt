@@ -1,7 +1,7 @@
 -- The first two lines of a script, the version's and the device's. This project's own.
 use Rattle.std.specs.Prelude.{ℕ, Bool, false, not, ◌&&◌, if◌then◌else◌, List, [], ◌∷◌, codes, Result, Ok, Err}
 use Rattle.std.specs.Str.{bytes_eq}
-use Rattle.cap_table.specs.Caps.{CapsParts, all_selectors, greatest_limits}
+use Rattle.cap_table.specs.Caps.{CapsParts, all_selectors, greatest_limits, most_pairs}
 use Rattle.cap_table.specs.declared.start.Start.{Start}
 use Rattle.cap_table.specs.declared.start.Start.TheVariants.{Ready, Reset}
 use Rattle.vnff_run.specs.Results.{◌>>=◌}
@@ -30,7 +30,7 @@ start_of word =
 -- the device's queue pairs and limits; it has all five selectors
 unfoldable pub caps_of : List ℕ → List ℕ → List ℕ → List ℕ → List ℕ → List ℕ → List ℕ → Result CapsParts Reason
 caps_of pairs groups classifiers rules per_group last_priority selectors = do
-  p ← number_within Number 1 16 pairs
+  p ← number_within Number 1 most_pairs pairs
   g ← number_within Number 0 greatest_limits.groups groups
   c ← number_within Number 0 greatest_limits.classifiers classifiers
   r ← number_within Number 0 greatest_limits.rules rules

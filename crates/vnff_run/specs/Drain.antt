@@ -3,7 +3,7 @@
 use Rattle.std.specs.Prelude.{◌≡◌, ℕ, ◌≤◌, zero, suc, nat_lt, if◌then◌else◌, List, [], ◌∷◌, ◌++◌, length, map, codes, decimal, None, Result, Ok, Err}
 use Rattle.std.specs.List.{range_with_len}
 use Rattle.vnff_base.specs.Hex.{hex_text}
-use Rattle.guest_mem.specs.Memory.{IsBytes}
+use Rattle.byte_numbers.specs.Bytes.{IsBytes}
 use Rattle.split_queue.specs.Chains.{room_of}
 use Rattle.split_queue.specs.DeviceEnds.{chain_in_slot}
 use Rattle.split_queue.specs.Rings.{available_idx, available_head, with_used_entry}

@@ -28,18 +28,18 @@ load_of seed frames = load_with (number_of seed) (frame_count_of frames)
 
 -- the form of the words: `replay SCRIPT`, `gen SEED N`, `compile DEVICE TABLE`, `steer SCRIPT CAPTURE`,
 -- `table DEVICE TABLE CAPTURE` or `drain IMAGE SIZE DESC AVAIL USED`
-unfoldable pub form_of : List (List ℕ) → Option WordForm
-form_of (form ∷ script ∷ []) = if bytes_eq form (codes "replay") then Some (Replay script) else None
-form_of (form ∷ first ∷ second ∷ []) =
+unfoldable pub word_form : List (List ℕ) → Option WordForm
+word_form (form ∷ script ∷ []) = if bytes_eq form (codes "replay") then Some (Replay script) else None
+word_form (form ∷ first ∷ second ∷ []) =
     if bytes_eq form (codes "gen") then load_of first second
     else if bytes_eq form (codes "compile") then Some (Compile first second)
     else if bytes_eq form (codes "steer") then Some (Steer first second)
     else None
-form_of (form ∷ device ∷ table ∷ capture ∷ []) =
+word_form (form ∷ device ∷ table ∷ capture ∷ []) =
     if bytes_eq form (codes "table") then Some (Table device table capture) else None
-form_of (form ∷ image ∷ size ∷ desc ∷ avail ∷ used ∷ []) =
+word_form (form ∷ image ∷ size ∷ desc ∷ avail ∷ used ∷ []) =
     if bytes_eq form (codes "drain") then option_map (Drain image) (place_from_words size desc avail used) else None
-form_of _ = None
+word_form _ = None
 
 -- a form as the code keeps it
 abbrev pub form_view : Form → WordForm

@@ -10,7 +10,7 @@ use Rattle.cap_table.specs.Caps.{CapsParts}
 use Rattle.vnff_run.specs.DeviceLines.{is_version, device_of}
 use Rattle.vnff_run.specs.ItemLines.{item_of}
 use Rattle.vnff_run.specs.Results.{◌>>=◌}
-use Rattle.vnff_run.specs.SelectLines.{is_select, selector_of}
+use Rattle.vnff_run.specs.SelectLines.{is_select, selector_in_line}
 use Rattle.vnff_run.specs.declared.script.DeviceLine.{DeviceLine}
 use Rattle.vnff_run.specs.declared.script.Item.{Item}
 use Rattle.vnff_run.specs.declared.script.Reason.{Reason}
@@ -35,13 +35,13 @@ device_in missing (line ∷ lines) = do
   Ok (device, lines)
 
 -- the selectors that the first lines name, with types above `last` that rise, and the lines behind those
-unfoldable pub selectors_in : ℕ → List NumberedLine → Result (List SelectorParts × List NumberedLine) (ℕ × Reason)
-selectors_in last [] = Ok ([], [])
-selectors_in last (line ∷ lines) =
+unfoldable pub first_selectors : ℕ → List NumberedLine → Result (List SelectorParts × List NumberedLine) (ℕ × Reason)
+first_selectors last [] = Ok ([], [])
+first_selectors last (line ∷ lines) =
     if not (is_select line.words) then Ok ([], line ∷ lines)
     else do
-      selector ← at_line line.number (selector_of last (drop 1 line.words))
-      more ← selectors_in (kind_code selector.kind) lines
+      selector ← at_line line.number (selector_in_line last (drop 1 line.words))
+      more ← first_selectors (kind_code selector.kind) lines
       Ok (selector ∷ more.0, more.1)
 
 -- the items, a line each
@@ -62,7 +62,7 @@ unfoldable pub script_of_lines : ℕ → List NumberedLine → Result Script (�
 script_of_lines missing lines = do
   behind ← after_version missing lines
   device ← device_in missing behind
-  selected ← selectors_in 0 device.1
+  selected ← first_selectors 0 device.1
   items ← items_of selected.1
   Ok (record { caps = caps_with_selectors device.0.caps selected.0; start = device.0.start; items = items })
 

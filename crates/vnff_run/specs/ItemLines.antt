@@ -20,18 +20,18 @@ admin_of (hex ∷ room ∷ []) = do
 admin_of _ = Err Word
 
 -- `frame HEX`, by the words behind `frame`
-unfoldable pub frame_of : List (List ℕ) → Result Item Reason
-frame_of (hex ∷ []) = do
+unfoldable pub frame_item : List (List ℕ) → Result Item Reason
+frame_item (hex ∷ []) = do
   bytes ← bytes_within Hex 0 longest_frame hex
   Ok (Frame bytes)
-frame_of _ = Err Word
+frame_item _ = Err Word
 
 -- a line of an item
 unfoldable pub item_of : List (List ℕ) → Result Item Reason
 item_of [] = Err Word
 item_of (name ∷ words) =
     if bytes_eq name (codes "admin") then admin_of words
-    else if bytes_eq name (codes "frame") then frame_of words
+    else if bytes_eq name (codes "frame") then frame_item words
     else Err Word
 
 -- a command with its room is within the limits
@@ -41,6 +41,6 @@ pub record IsCommandWithin (line : AdminLine) : Type 0 where
   pub room : line.room ≤ most_room
 
 -- an item is, of what lines give
-abbrev pub IsWithin : Item → Type 0
-IsWithin (Admin line) = IsCommandWithin line
-IsWithin (Frame frame) = length frame ≤ longest_frame
+abbrev pub IsItemWithin : Item → Type 0
+IsItemWithin (Admin line) = IsCommandWithin line
+IsItemWithin (Frame frame) = length frame ≤ longest_frame

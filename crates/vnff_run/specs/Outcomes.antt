@@ -11,7 +11,7 @@ use Rattle.vnff_run.specs.Steering.{steer_text, steering_for}
 use Rattle.vnff_run.specs.declared.drain.Last.{Last}
 use Rattle.vnff_run.specs.declared.drain.Last.TheVariants.{Empty, Faulty}
 use Rattle.vnff_run.specs.CompileTexts.{compile_text}
-use Rattle.vnff_run.specs.Forms.{WordForm, Replay, Compile, Table, Drain, Steer, Gen, form_of}
+use Rattle.vnff_run.specs.Forms.{WordForm, Replay, Compile, Table, Drain, Steer, Gen, word_form}
 use Rattle.vnff_run.specs.Loads.{gen_text}
 use Rattle.vnff_run.specs.TableInputs.{compiled_in, table_run_in}
 use Rattle.vnff_run.specs.TableRefusals.{capture_words, limit_words, table_reason_word, unsupported_words}
@@ -137,4 +137,4 @@ outcome_by (Some form) files = outcome_in form files
 
 -- the outcome for words and files, where no shelf and no output fails but by a file that isn't there
 abbrev pub outcome_of : List (List ℕ) → Files → Outcome
-outcome_of words files = outcome_by (form_of words) files
+outcome_of words files = outcome_by (word_form words) files

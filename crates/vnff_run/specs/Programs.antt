@@ -16,7 +16,7 @@ use Rattle.ntuple_compile.specs.declared.error.CompileErr.TheVariants as errors
 use Rattle.vnff_run.specs.CompileTexts.{comment_line, reply_room}
 use Rattle.vnff_run.specs.Inputs.{InputFault, Missing, Refused}
 use Rattle.vnff_run.specs.ScriptTexts.{line_text, select_words}
-use Rattle.vnff_run.specs.TableInputs.{compile_fault, table_fault}
+use Rattle.vnff_run.specs.TableInputs.{compile_refusal, table_fault}
 use Rattle.vnff_run.specs.declared.compiled.CompiledTable.{CompiledTable}
 use Rattle.vnff_run.specs.declared.script.ScriptFault.{ScriptFault}
 use Rattle.vnff_run.specs.declared.script.ScriptFault.TheVariants as faults
@@ -57,7 +57,7 @@ table_stop err = fault_stop (table_fault err)
 -- why a table can't be compiled, or that memory ran out
 abbrev pub compile_stop : CompileErr → Stop
 compile_stop errors.Memory = stops.Memory
-compile_stop err = fault_stop (compile_fault err)
+compile_stop err = fault_stop (compile_refusal err)
 
 -- why a capture can't be read, or that memory ran out
 abbrev pub capture_stop : CaptureReadErr → Stop

@@ -9,9 +9,9 @@ use Rattle.vnff_run.specs.declared.script.ScriptFault.{ScriptFault}
 use Rattle.vnff_run.specs.declared.script.ScriptFault.TheVariants as faults
 
 -- The fault is the first one of these lines, unless memory ran out.
-abbrev pub IsFaultOf : {A : Type 0} → Result A (ℕ × Reason) → ScriptFault → Type 0
-IsFaultOf spelled (faults.Bad line reason) = spelled ≡ Err (line, reason)
-IsFaultOf spelled faults.Memory = ⊤
+abbrev pub IsScriptFault : {A : Type 0} → Result A (ℕ × Reason) → ScriptFault → Type 0
+IsScriptFault spelled (faults.Bad line reason) = spelled ≡ Err (line, reason)
+IsScriptFault spelled faults.Memory = ⊤
 
 -- The fault is the first one of this line, unless memory ran out.
 abbrev pub IsLineFaultOf : {A : Type 0} → Result A Reason → LineFault → Type 0
@@ -19,9 +19,9 @@ IsLineFaultOf spelled (line_faults.Bad reason) = spelled ≡ Err reason
 IsLineFaultOf spelled line_faults.Memory = ⊤
 
 -- a line's fault, with the line's number
-abbrev pub fault_at : LineFault → ℕ → ScriptFault
-fault_at (line_faults.Bad reason) line = faults.Bad line reason
-fault_at line_faults.Memory line = faults.Memory
+abbrev pub script_fault_at : LineFault → ℕ → ScriptFault
+script_fault_at (line_faults.Bad reason) line = faults.Bad line reason
+script_fault_at line_faults.Memory line = faults.Memory
 
 -- The numbers of unread lines have 32 bits, also that of a missing line.
 pub record HasSmallNumbers (unread : UnreadLines) : Type 0 where

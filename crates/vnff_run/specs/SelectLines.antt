@@ -41,10 +41,10 @@ flags_named word =
     else None
 
 -- A selector, by the words behind `select`. Its type is above `last`, and its mask has the header's size.
-unfoldable pub selector_of : ℕ → List (List ℕ) → Result SelectorParts Reason
-selector_of last (kind ∷ mode ∷ mask ∷ []) = do
+unfoldable pub selector_in_line : ℕ → List (List ℕ) → Result SelectorParts Reason
+selector_in_line last (kind ∷ mode ∷ mask ∷ []) = do
   k ← ok_or (kind_named kind) Select
   flags ← ok_or (flags_named mode) Select
   bytes ← bytes_within Select (kind_size k) (kind_size k) mask
   if nat_lt last (kind_code k) then Ok (selector_with k flags bytes) else Err Select
-selector_of last _ = Err Word
+selector_in_line last _ = Err Word

@@ -1,7 +1,7 @@
 -- The scripts that a text can spell: what lies within the limits of the grammar. This project's own.
 use Rattle.std.specs.Prelude.{ℕ, ◌≤◌, List, length, All}
 use Rattle.ff_headers.specs.SelectorParts.{SelectorParts}
-use Rattle.vnff_base.specs.Bytes.{IsBytes}
+use Rattle.byte_numbers.specs.Bytes.{IsBytes}
 use Rattle.cap_table.specs.Caps.{AreCaps}
 use Rattle.capture.specs.Sizes.{longest_frame}
 use Rattle.vnff_run.specs.ItemLines.{IsCommandWithin}

@@ -6,7 +6,7 @@ use Rattle.rx_sinks.specs.Sinks.{SinkState}
 use Rattle.vnff_base.specs.Outputs.{OutputState}
 use Rattle.vnff_base.specs.Shelves.{Files, ShelfState}
 use Rattle.vnff_run.specs.Endings.{AppendedNothing, FormEnds, FormStops, IsUntouched, NoReadFailed}
-use Rattle.vnff_run.specs.Forms.{WordForm, form_of}
+use Rattle.vnff_run.specs.Forms.{WordForm, word_form}
 use Rattle.vnff_run.specs.Outcomes.{outcome_in}
 use Rattle.vnff_run.specs.SteerInputs.{is_steer, steering_by, steering_of}
 use Rattle.vnff_run.specs.Steering.{AllSteered, FrontSteered, Steered, Steering}
@@ -35,7 +35,7 @@ SinksSteered shelf steering status old new = SinksAre shelf steering old new (λ
 abbrev pub SteerFailed : List (List ℕ) → ShelfState → OutputState → OutputState → List SinkState → List SinkState
     → Type 0
 SteerFailed words shelf out out_new old new =
-    (is_steer (form_of words) ≡ true) × SinkFailed shelf (steering_of words) old new × AppendedNothing out out_new
+    (is_steer (word_form words) ≡ true) × SinkFailed shelf (steering_of words) old new × AppendedNothing out out_new
 
 -- Why a form stopped, and what it had done with the sinks: nothing, but where a write or a sink failed.
 abbrev pub StopsWith : WordForm → ShelfState → ShelfState → OutputState → OutputState → List SinkState → List SinkState

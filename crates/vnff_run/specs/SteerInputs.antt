@@ -2,7 +2,7 @@
 use Rattle.std.specs.Prelude.{ℕ, Bool, true, false, List, Option, Some, None, option_map, Result, Ok}
 use Rattle.std.specs.Result.{result_ok}
 use Rattle.vnff_base.specs.Shelves.{Files}
-use Rattle.vnff_run.specs.Forms.{WordForm, Steer, form_of}
+use Rattle.vnff_run.specs.Forms.{WordForm, Steer, word_form}
 use Rattle.vnff_run.specs.Inputs.{InputFault, script_in}
 use Rattle.vnff_run.specs.Results.{◌>>=◌}
 use Rattle.vnff_run.specs.Steering.{Steering, steering_for}
@@ -31,4 +31,4 @@ steering_by (Some (Steer script capture)) files = steering_in script capture fil
 steering_by _ files = None
 
 abbrev pub steering_of : List (List ℕ) → Files → Option Steering
-steering_of words files = steering_by (form_of words) files
+steering_of words files = steering_by (word_form words) files

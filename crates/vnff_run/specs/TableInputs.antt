@@ -68,18 +68,18 @@ table_in pairs name files = do
 -- ---- the commands
 
 -- why a table can't be compiled; the last one stands for nothing, as above
-abbrev pub compile_fault : CompileErr → InputFault
-compile_fault (errors.Unsupported loc kind) = Refused (Unsupported loc kind)
-compile_fault (errors.Rules count) = Refused (PastLimit limits.Rules count)
-compile_fault (errors.Classifiers count) = Refused (PastLimit limits.Classifiers count)
-compile_fault (errors.Levels count) = Refused (PastLimit limits.Levels count)
-compile_fault (errors.PerGroup count) = Refused (PastLimit limits.PerGroup count)
-compile_fault errors.Memory = Missing
+abbrev pub compile_refusal : CompileErr → InputFault
+compile_refusal (errors.Unsupported loc kind) = Refused (Unsupported loc kind)
+compile_refusal (errors.Rules count) = Refused (PastLimit limits.Rules count)
+compile_refusal (errors.Classifiers count) = Refused (PastLimit limits.Classifiers count)
+compile_refusal (errors.Levels count) = Refused (PastLimit limits.Levels count)
+compile_refusal (errors.PerGroup count) = Refused (PastLimit limits.PerGroup count)
+compile_refusal errors.Memory = Missing
 
 -- the commands of a table, or the refusal of one that has none
 abbrev pub commands_or_refusal : Result (List Command) CompileErr → Result (List Command) InputFault
 commands_or_refusal (Ok commands) = Ok commands
-commands_or_refusal (Err err) = Err (compile_fault err)
+commands_or_refusal (Err err) = Err (compile_refusal err)
 
 -- a table with its commands for a device
 unfoldable pub compiled_for : CapsParts → TableMap → Result CompiledTable InputFault

@@ -2,7 +2,7 @@
 -- is compiled: the table's own definition says which spec acts.
 use Rattle.std.specs.Prelude.{◌≡◌, ℕ, List, ◌++◌, codes, decimal}
 use Rattle.std.specs.List.{enumerate_from, flat_map}
-use Rattle.vnff_base.specs.Bytes.{IsBytes}
+use Rattle.byte_numbers.specs.Bytes.{IsBytes}
 use Rattle.ff_headers.specs.Frames.{headers_of}
 use Rattle.ff_headers.specs.Objects.{FlowObjects}
 use Rattle.ff_headers.specs.Places.{action_of}

@@ -5,6 +5,7 @@ ghost use Rattle.vnff_base.specs.Lines.{word_lines};
 ghost use Rattle.ntuple_compile.specs.Compiled.{compiled};
 ghost use Rattle.ntuple_text.specs.TableLines.{table_of};
 ghost use Rattle.vnff_base.specs.Shelves.{file_limit};
+ghost use Rattle.cap_table.specs.Caps.{most_pairs};
 ghost use Rattle.vnff_run.specs.DeviceFiles.{device_file_of};
 ghost use Rattle.vnff_run.specs.Endings.{Judges, ReadsInput};
 ghost use Rattle.vnff_run.specs.TableInputs.{caps_in, caps_or_refusal, compiled_for, compiled_in};
@@ -100,7 +101,7 @@ fn device_stop(fault: ScriptFault) -> Stop
 /// The table in a file, for so many queue pairs.
 fn table_in<S: Shelf>(alloc: Global, pairs: u8, name: &str, shelf: &mut S) -> Result<Table, Stop>
     requires some_pairs { 1 ≤ pairs }
-    requires most_pairs { pairs ≤ 16 }
+    requires most_pairs { pairs ≤ most_pairs }
     ensures read { ReadsInput (S.state shelf.old) (S.state shelf.new) (table_in pairs name.now) result }
     ensures same_files { (S.state shelf.new).files ≡ (S.state shelf.old).files }
     ensures pairs { IfOk result (λ table. table.pairs ≡ pairs) }
@@ -113,7 +114,7 @@ fn table_in<S: Shelf>(alloc: Global, pairs: u8, name: &str, shelf: &mut S) -> Re
 fn table_of(alloc: Global, bytes: &[u8], pairs: u8) -> Result<Table, Stop>
     requires short { length bytes.now ≤ file_limit }
     requires some_pairs { 1 ≤ pairs }
-    requires most_pairs { pairs ≤ 16 }
+    requires most_pairs { pairs ≤ most_pairs }
     ensures judged { Judges (table_or_refusal (table_of pairs (word_lines bytes.now))) result }
     ensures pairs { IfOk result (λ table. table.pairs ≡ pairs) }
 {

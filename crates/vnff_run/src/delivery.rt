@@ -1,6 +1,7 @@
 //! Frames that are delivered to the sinks of a rack, each to that of its queue.
 
 ghost use Rattle.std.specs.Prelude.{◌≡◌, ◌≤◌, ◌<◌, ℕ, All, length, IfOk, OnErr, OnOk, Some};
+ghost use Rattle.cap_table.specs.Caps.{most_pairs};
 ghost use Rattle.capture.specs.Sizes.{longest_frame};
 ghost use Rattle.vnff_run.specs.Deliveries.{DeliversAll, FinishesAll, OneDelivered, OneFaulted, steering_on};
 ghost use Rattle.vnff_run.specs.Steering.{queue_of};
@@ -22,9 +23,9 @@ pub(crate) fn deliver_and_finish(
 ) -> Result<Tally, Failed>
     requires pairs { bench.now.device.caps.pairs ≡ pairs }
     requires some { 1 ≤ pairs }
-    requires few { pairs ≤ 16 }
+    requires few { pairs ≤ most_pairs }
     requires short { All (λ frame. length frame ≤ longest_frame) frames.now }
-    requires sinks { length (⟦<Rack as SinkList>⟧.sinks rack.old) ≡ 16 }
+    requires sinks { length (⟦<Rack as SinkList>⟧.sinks rack.old) ≡ most_pairs }
     ensures tally { IfOk result (λ tally. IsTallyOf bench.now.device.objects frames.now tally) }
     ensures sinks { FinishesAll (steering_on bench.now.device frames.now)
         (⟦<Rack as SinkList>⟧.sinks rack.old) (⟦<Rack as SinkList>⟧.sinks rack.new) result }
@@ -36,9 +37,9 @@ pub(crate) fn deliver_and_finish(
 /// Delivers frames in order, up to the first failure, and counts them.
 fn deliver_all(bench: &Bench, frames: &Frames, rack: &mut Rack) -> Result<Tally, Failed>
     requires some { 1 ≤ bench.now.device.caps.pairs }
-    requires few { bench.now.device.caps.pairs ≤ 16 }
+    requires few { bench.now.device.caps.pairs ≤ most_pairs }
     requires short { All (λ frame. length frame ≤ longest_frame) frames.now }
-    requires sinks { length (⟦<Rack as SinkList>⟧.sinks rack.old) ≡ 16 }
+    requires sinks { length (⟦<Rack as SinkList>⟧.sinks rack.old) ≡ most_pairs }
     ensures tally { IfOk result (λ tally. IsTallyOf bench.now.device.objects frames.now tally) }
     ensures sinks { DeliversAll (steering_on bench.now.device frames.now)
         (⟦<Rack as SinkList>⟧.sinks rack.old) (⟦<Rack as SinkList>⟧.sinks rack.new) result }

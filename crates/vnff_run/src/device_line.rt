@@ -1,13 +1,15 @@
 //! The first two lines of a script: the version's, and the device's.
 
-ghost use Rattle.std.specs.Prelude.{◌≡◌, ◌∷◌, [], length, MatchOption};
+ghost use Rattle.std.specs.Prelude.{◌≡◌, ◌≤◌, ◌∷◌, [], length, IfOk, MatchOption};
 ghost use Rattle.vnff_base.specs.Lines.{words_of};
 ghost use Rattle.vnff_run.specs.DeviceLines.{caps_of, device_of, is_version, start_of};
+ghost use Rattle.vnff_run.specs.Words.{number_within};
+ghost use Rattle.vnff_run.specs.declared.script.Reason.TheVariants.{Number};
 
 use crate::script::{DeviceLine, Reason};
 use crate::word::{number_within, two_words};
 use admin_dev::Start;
-use cap_table::DeviceCaps;
+use cap_table::{DeviceCaps, GREATEST_LIMITS, MOST_PAIRS};
 use ff_headers::Limits;
 use vnff_base::text::first_word;
 
@@ -93,6 +95,14 @@ fn start_of(word: &[u8]) -> Result<Start, Reason>
     }
 }
 
+/// The number that a word spells, which is to be at most `most`.
+fn up_to(most: u32, word: &[u8]) -> Result<u64, Reason>
+    ensures value { result ≡ number_within Number 0 most word.now }
+    ensures bound { IfOk result (λ number. number ≤ most) }
+{
+    number_within(Reason::Number, 0, u64::from(most), word)
+}
+
 /// The capabilities that a device's line spells.
 #[tactic(auto, unfolding(crate::specs::DeviceLines::caps_of))]
 fn caps_of(words: &DeviceWords<'_>) -> Result<DeviceCaps, Reason>
@@ -100,13 +110,14 @@ fn caps_of(words: &DeviceWords<'_>) -> Result<DeviceCaps, Reason>
         result ≡ caps_of w.pairs.now w.groups.now w.classifiers.now w.rules.now w.per_group.now
         w.last_priority.now w.selectors.now }
 {
-    let pairs = number_within(Reason::Number, 1, 16, words.pairs)?;
-    let groups = number_within(Reason::Number, 0, 16, words.groups)?;
-    let classifiers = number_within(Reason::Number, 0, 64, words.classifiers)?;
-    let rules = number_within(Reason::Number, 0, 1024, words.rules)?;
-    let per_group = number_within(Reason::Number, 0, 1024, words.per_group)?;
-    let last_priority = number_within(Reason::Number, 0, 255, words.last_priority)?;
-    let selectors = number_within(Reason::Number, 0, 3, words.selectors)?;
+    let most = GREATEST_LIMITS;
+    let pairs = number_within(Reason::Number, 1, u64::from(MOST_PAIRS), words.pairs)?;
+    let groups = up_to(most.groups, words.groups)?;
+    let classifiers = up_to(most.classifiers, words.classifiers)?;
+    let rules = up_to(most.rules, words.rules)?;
+    let per_group = up_to(most.per_group, words.per_group)?;
+    let last_priority = up_to(u32::from(most.last_priority), words.last_priority)?;
+    let selectors = up_to(u32::from(most.selectors), words.selectors)?;
     let limits = Limits {
         groups: groups as u32,
         classifiers: classifiers as u32,

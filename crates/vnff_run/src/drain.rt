@@ -2,7 +2,7 @@
 //! for each.
 
 ghost use Rattle.std.specs.Prelude.{◌≡◌, [], None, length, IfOk};
-ghost use Rattle.guest_mem.specs.Memory.{IsBytes};
+ghost use Rattle.byte_numbers.specs.Bytes.{IsBytes};
 ghost use Rattle.split_queue.specs.DeviceEnds.{device_start};
 ghost use Rattle.split_queue.specs.Setup.{setup_fault};
 ghost use Rattle.vnff_base.specs.Gatherings.{Gathers};

@@ -5,7 +5,7 @@ ghost use Rattle.vnff_base.specs.Shelves.{file_limit};
 ghost use Rattle.capture.specs.Sizes.{longest_frame};
 ghost use Rattle.vnff_run.specs.Endings.{ReadsInput};
 ghost use Rattle.vnff_run.specs.Inputs.{file_bytes, script_in};
-ghost use Rattle.vnff_run.specs.ItemLines.{IsWithin};
+ghost use Rattle.vnff_run.specs.ItemLines.{IsItemWithin};
 ghost use Rattle.vnff_run.specs.Programs.{capture_stop};
 ghost use Rattle.vnff_run.specs.TableInputs.{frames_in};
 
@@ -38,7 +38,7 @@ pub(crate) fn file_bytes<S: Shelf>(
 /// The script in a file.
 pub fn script_in<S: Shelf>(alloc: Global, name: &str, shelf: &mut S) -> Result<Script, Stop>
     ensures read { ReadsInput (S.state shelf.old) (S.state shelf.new) (script_in name.now) result }
-    ensures items { IfOk result (λ script. All IsWithin script.items) }
+    ensures items { IfOk result (λ script. All IsItemWithin script.items) }
     ensures few { IfOk result (λ script. length script.items ≤ file_limit) }
     ensures same_files { (S.state shelf.new).files ≡ (S.state shelf.old).files }
 {

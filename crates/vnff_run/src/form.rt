@@ -3,7 +3,7 @@
 ghost use Rattle.std.specs.Prelude.{◌≡◌, map, option_map, string_bytes};
 ghost use Rattle.std.specs.Prelude.{codes, Some, None, if◌then◌else◌};
 ghost use Rattle.std.specs.Str.{bytes_eq};
-ghost use Rattle.vnff_run.specs.Forms.{form_of, form_view, load_of};
+ghost use Rattle.vnff_run.specs.Forms.{word_form, form_view, load_of};
 ghost use Rattle.vnff_run.specs.Forms.{Replay as WordReplay, Compile as WordCompile, Table as WordTable};
 ghost use Rattle.vnff_run.specs.Forms.{Steer as WordSteer};
 
@@ -30,9 +30,9 @@ pub enum Form<'a> {
 }
 
 /// The form of the words, which are those behind the program's own name.
-#[tactic(auto, unfolding(crate::specs::Forms::form_of))]
-pub fn form_of(words: &[String]) -> Option<Form<'_>>
-    ensures { option_map form_view result ≡ form_of (map string_bytes words.now) }
+#[tactic(auto, unfolding(crate::specs::Forms::word_form))]
+pub fn word_form(words: &[String]) -> Option<Form<'_>>
+    ensures { option_map form_view result ≡ word_form (map string_bytes words.now) }
 {
     match words {
         [form, script] => one_file(form.as_str(), script.as_str()),

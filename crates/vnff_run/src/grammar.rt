@@ -8,18 +8,18 @@ ghost use Rattle.cap_table.specs.Caps.{AreSelectors};
 ghost use Rattle.vnff_base.specs.Shelves.{file_limit};
 ghost use Rattle.vnff_run.specs.DeviceFiles.{device_file_of, device_file_of_lines, first_number, ready_start};
 ghost use Rattle.vnff_run.specs.Grammar.{after_version, at_line, device_in, items_of, script_of, script_of_lines};
-ghost use Rattle.vnff_run.specs.Grammar.{selectors_in, caps_with_selectors};
-ghost use Rattle.vnff_run.specs.ItemLines.{IsWithin, item_of};
-ghost use Rattle.vnff_run.specs.Readings.{HasSmallNumbers, IsFaultOf, lines_from};
+ghost use Rattle.vnff_run.specs.Grammar.{first_selectors, caps_with_selectors};
+ghost use Rattle.vnff_run.specs.ItemLines.{IsItemWithin, item_of};
+ghost use Rattle.vnff_run.specs.Readings.{HasSmallNumbers, IsScriptFault, lines_from};
 ghost use Rattle.vnff_run.specs.ScriptTexts.{script_text};
-ghost use Rattle.vnff_run.specs.SelectLines.{selector_of};
+ghost use Rattle.vnff_run.specs.SelectLines.{selector_in_line};
 ghost use Rattle.vnff_run.specs.Spellable.{IsSpellable};
 ghost use Rattle.vnff_run.specs.declared.script.Script.{Script as SomeScript};
 
 use crate::device_line::{device_of, is_version};
 use crate::item_line::item_of;
 use crate::script::{DeviceLine, Item, Reason, Script, ScriptFault};
-use crate::select_line::{behind_select, selector_of};
+use crate::select_line::{behind_select, selector_in_line};
 use arrayvec::ArrayVec;
 use cap_table::{DeviceCaps, Start};
 use ff_headers::Selector;
@@ -30,12 +30,13 @@ use vnff_base::text::{Line, LineReader};
 /// The script that the bytes spell, at most 67,108,864 of them, or its first fault.
 pub fn read_script(alloc: Global, bytes: &[u8]) -> Result<Script, ScriptFault>
     requires { length bytes.now ≤ file_limit }
-    ensures read { MatchResult result (λ script. script_of bytes.now ≡ Ok script) (IsFaultOf (script_of bytes.now)) }
+    ensures read { MatchResult result (λ script. script_of bytes.now ≡ Ok script)
+        (IsScriptFault (script_of bytes.now)) }
     // The canonical text of a script is read as that script.
     ensures written { (script : SomeScript) → IsSpellable script → bytes.now ≡ script_text script
         → MatchResult result (λ read. read ≡ script) (λ fault. fault ≡ ScriptFault.Memory) }
     // Its commands, rooms and frames are within their limits.
-    ensures within { IfOk result (λ script. All IsWithin script.items) }
+    ensures within { IfOk result (λ script. All IsItemWithin script.items) }
     // There are no more items than bytes.
     ensures few { IfOk result (λ script. length script.items ≤ length bytes.now) }
 {
@@ -47,7 +48,7 @@ pub fn read_script(alloc: Global, bytes: &[u8]) -> Result<Script, ScriptFault>
 fn read_lines(alloc: Global, reader: &mut LineReader) -> Result<Script, ScriptFault>
     requires { HasSmallNumbers reader.old }
     ensures { let spelled = script_of_lines reader.old.missing reader.old.left in
-        MatchResult result (λ script. spelled ≡ Ok script) (IsFaultOf spelled) }
+        MatchResult result (λ script. spelled ≡ Ok script) (IsScriptFault spelled) }
 {
     read_version(reader)?;
     let (_, DeviceLine { caps, start }) = read_device(reader)?;
@@ -63,7 +64,7 @@ fn read_lines(alloc: Global, reader: &mut LineReader) -> Result<Script, ScriptFa
 pub fn read_device_file(alloc: Global, bytes: &[u8]) -> Result<Script, ScriptFault>
     requires { length bytes.now ≤ file_limit }
     ensures { MatchResult result (λ script. device_file_of bytes.now ≡ Ok script)
-        (IsFaultOf (device_file_of bytes.now)) }
+        (IsScriptFault (device_file_of bytes.now)) }
 {
     read_device_lines(alloc, &mut LineReader::new(bytes))
 }
@@ -73,7 +74,7 @@ pub fn read_device_file(alloc: Global, bytes: &[u8]) -> Result<Script, ScriptFau
 fn read_device_lines(alloc: Global, reader: &mut LineReader) -> Result<Script, ScriptFault>
     requires { HasSmallNumbers reader.old }
     ensures { let spelled = device_file_of_lines reader.old.missing reader.old.left in
-        MatchResult result (λ script. spelled ≡ Ok script) (IsFaultOf spelled) }
+        MatchResult result (λ script. spelled ≡ Ok script) (IsScriptFault spelled) }
 {
     read_version(reader)?;
     let (number, DeviceLine { caps, start }) = read_device(reader)?;
@@ -106,7 +107,7 @@ fn ready_start(start: Start) -> Result<Start, Reason>
 fn read_version(reader: &mut LineReader) -> Result<(), ScriptFault>
     requires { HasSmallNumbers reader.old }
     ensures read { let spelled = after_version reader.old.missing reader.old.left in
-        MatchResult result (λ _. spelled ≡ Ok reader.new.left) (IsFaultOf spelled) }
+        MatchResult result (λ _. spelled ≡ Ok reader.new.left) (IsScriptFault spelled) }
     ensures missing { reader.new.missing ≡ reader.old.missing }
     ensures small { HasSmallNumbers reader.new }
 {
@@ -124,7 +125,7 @@ fn read_version(reader: &mut LineReader) -> Result<(), ScriptFault>
 fn read_device(reader: &mut LineReader) -> Result<(u64, DeviceLine), ScriptFault>
     requires { HasSmallNumbers reader.old }
     ensures read { let spelled = device_in reader.old.missing reader.old.left in
-        MatchResult result (λ read. spelled ≡ Ok (read.1, reader.new.left)) (IsFaultOf spelled) }
+        MatchResult result (λ read. spelled ≡ Ok (read.1, reader.new.left)) (IsScriptFault spelled) }
     ensures number { IfOk result (λ read. read.0 ≡ first_number reader.old.missing reader.old.left) }
     ensures small_number { IfOk result (λ read. read.0 < 2 ^ 32) }
     ensures small { HasSmallNumbers reader.new }
@@ -145,9 +146,9 @@ fn read_selectors<'a>(
 ) -> Result<Option<Line<'a>>, ScriptFault>
     requires none { selectors.old.items ≡ [] }
     requires small { HasSmallNumbers reader.old }
-    ensures read { let spelled = selectors_in 0 reader.old.left in
+    ensures read { let spelled = first_selectors 0 reader.old.left in
         MatchResult result (λ first. spelled ≡ Ok (selectors.new.items, lines_from first reader.new.left))
-        (IsFaultOf spelled) }
+        (IsScriptFault spelled) }
     ensures good { OnOk result (AreSelectors selectors.new.items) }
     ensures small { HasSmallNumbers reader.new }
     ensures first_small { IfOk result (λ first. IfSome first (λ line. line.number < 2 ^ 32)) }
@@ -172,12 +173,12 @@ fn read_selector(
     words: &[u8],
 ) -> Result<Selector, ScriptFault>
     requires { number < 2 ^ 32 }
-    ensures read { let spelled = at_line number (selector_of last (words_of words.now)) in
-        MatchResult result (λ selector. spelled ≡ Ok selector) (IsFaultOf spelled) }
+    ensures read { let spelled = at_line number (selector_in_line last (words_of words.now)) in
+        MatchResult result (λ selector. spelled ≡ Ok selector) (IsScriptFault spelled) }
     ensures above { IfOk result (λ selector. last < kind_code selector.kind) }
     ensures whole { IfOk result IsWhole }
 {
-    selector_of(alloc, last, words).map_err(|fault| fault.at(number))
+    selector_in_line(alloc, last, words).map_err(|fault| fault.at(number))
 }
 
 /// The device with the selectors that lines name, if there are any.
@@ -200,7 +201,7 @@ fn read_items(
     requires small { HasSmallNumbers reader.old }
     requires first_small { IfSome first (λ line. line.number < 2 ^ 32) }
     ensures { let lines = lines_from first.entry reader.old.left in
-        MatchResult result (λ items. items_of lines ≡ Ok items) (IsFaultOf (items_of lines)) }
+        MatchResult result (λ items. items_of lines ≡ Ok items) (IsScriptFault (items_of lines)) }
 {
     let mut items = List::new(alloc);
     let mut next = first;
@@ -216,7 +217,7 @@ fn read_items(
 fn read_item(alloc: Global, line: Line<'_>) -> Result<Item, ScriptFault>
     requires { line.number < 2 ^ 32 }
     ensures { let spelled = at_line line.entry.number (item_of (words_of line.entry.text.now)) in
-        MatchResult result (λ item. spelled ≡ Ok item) (IsFaultOf spelled) }
+        MatchResult result (λ item. spelled ≡ Ok item) (IsScriptFault spelled) }
 {
     item_of(alloc, line.text).map_err(|fault| fault.at(line.number))
 }

@@ -1,7 +1,7 @@
 //! Images of guest memory, read from files, and the queues in them.
 
 ghost use Rattle.std.specs.Prelude.{◌≡◌, None, length, IfOk};
-ghost use Rattle.guest_mem.specs.Memory.{IsBytes};
+ghost use Rattle.byte_numbers.specs.Bytes.{IsBytes};
 ghost use Rattle.split_queue.specs.DeviceEnds.{device_start};
 ghost use Rattle.split_queue.specs.Setup.{setup_fault};
 ghost use Rattle.vnff_run.specs.Endings.{ReadsInput};

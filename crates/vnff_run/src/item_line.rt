@@ -2,7 +2,7 @@
 
 ghost use Rattle.std.specs.Prelude.{◌≡◌, MatchResult};
 ghost use Rattle.vnff_base.specs.Lines.{words_of};
-ghost use Rattle.vnff_run.specs.ItemLines.{admin_of, frame_of, item_of};
+ghost use Rattle.vnff_run.specs.ItemLines.{admin_of, frame_item, item_of};
 ghost use Rattle.vnff_run.specs.Readings.{IsLineFaultOf};
 
 use crate::script::{Item, LineFault, Reason};
@@ -30,7 +30,7 @@ pub(crate) fn item_of(alloc: Global, line: &[u8]) -> Result<Item, LineFault>
     if name == b"admin".as_slice() {
         admin_of(alloc, words)
     } else if name == b"frame".as_slice() {
-        frame_of(alloc, words)
+        frame_item(alloc, words)
     } else {
         Err(LineFault::Bad(Reason::Word))
     }
@@ -51,10 +51,10 @@ fn admin_of(alloc: Global, line: &[u8]) -> Result<Item, LineFault>
 }
 
 /// The frame of a line `frame HEX`, behind its first word.
-#[tactic(auto, unfolding(crate::specs::ItemLines::frame_of))]
-fn frame_of(alloc: Global, line: &[u8]) -> Result<Item, LineFault>
-    ensures { MatchResult result (λ item. frame_of (words_of line.now) ≡ Ok item)
-        (IsLineFaultOf (frame_of (words_of line.now))) }
+#[tactic(auto, unfolding(crate::specs::ItemLines::frame_item))]
+fn frame_item(alloc: Global, line: &[u8]) -> Result<Item, LineFault>
+    ensures { MatchResult result (λ item. frame_item (words_of line.now) ≡ Ok item)
+        (IsLineFaultOf (frame_item (words_of line.now))) }
 {
     let Some(hex) = one_word(line) else {
         return Err(LineFault::Bad(Reason::Word));

@@ -1,7 +1,7 @@
 //! Laws of the definitions. Each call does nothing: its contract is the law.
 
 ghost use Rattle.std.specs.Prelude.{◌≡◌, ◌<◌, ◌⊎◌, ℕ, List, None, Ok, Err};
-ghost use Rattle.guest_mem.specs.Memory.{IsBytes};
+ghost use Rattle.byte_numbers.specs.Bytes.{IsBytes};
 ghost use Rattle.split_queue.specs.DeviceEnds.{as_pop_answer, pop_answer};
 ghost use Rattle.split_queue.specs.Rings.{available_idx};
 ghost use Rattle.split_queue.specs.declared.queue_place.Place.{Place};

@@ -3,7 +3,7 @@
 
 ghost use Rattle.std.specs.Prelude.{◌≤◌, Ok, length};
 ghost use Rattle.vnff_base.specs.Shelves.{file_limit};
-ghost use Rattle.vnff_run.specs.LiveWords.{live_view};
+ghost use Rattle.vnff_run.specs.LiveWords.{live_view, most_workers};
 ghost use Rattle.vnff_run.specs.PlanEndings.{EndsAs, LiveEnds, PlanEnds};
 ghost use Rattle.vnff_run.specs.Plans.{live_plan, plan_in};
 
@@ -29,7 +29,7 @@ pub(crate) fn run_live<R: Threads + Wait + Sync, S: Shelf, O: Out, G: Gate>(
     gate: &G,
 ) -> u8
     requires some { 1 ≤ form.workers }
-    requires few { form.workers ≤ 16 }
+    requires few { form.workers ≤ most_workers }
     ensures { EndsAs ⊥ ⊥ (S.state shelf.old) (S.state shelf.new) (O.state out.old) (O.state out.new)
         (plan_in (live_view form.entry)) result }
 {
@@ -48,7 +48,7 @@ fn run_checked<R: Threads + Wait + Sync, O: Out, G: Gate>(
     gate: &G,
 ) -> u8
     requires some { 1 ≤ run.workers }
-    requires few { run.workers ≤ 16 }
+    requires few { run.workers ≤ most_workers }
     requires commands { length run.commands ≤ file_limit }
     ensures { PlanEnds (O.state out.old) (O.state out.new) (live_plan (Ok run)) result }
 {
@@ -67,7 +67,7 @@ fn carry_out<R: Threads + Wait + Sync, O: Out, G: Gate>(
     gate: &G,
 ) -> Result<(), Stop>
     requires some { 1 ≤ run.workers }
-    requires few { run.workers ≤ 16 }
+    requires few { run.workers ≤ most_workers }
     requires commands { length run.commands ≤ file_limit }
     requires first { run.first ≤ length run.commands }
     ensures { LiveEnds (O.state out.old) (O.state out.new) run result }

@@ -1,7 +1,7 @@
 //! Laws of live runs. Each call does nothing: its contract is the law.
 
 ghost use Rattle.std.specs.Prelude.{◌≡◌, ℕ, ◌+◌, ◌<◌, List, ◌++◌, Some, length, slice_get, take};
-ghost use Rattle.vnff_base.specs.Bytes.{IsBytes};
+ghost use Rattle.byte_numbers.specs.Bytes.{IsBytes};
 ghost use Rattle.ff_headers.specs.Changes.{after};
 ghost use Rattle.ff_headers.specs.Frames.{headers_of};
 ghost use Rattle.ff_headers.specs.Places.{action_of};

@@ -3,7 +3,7 @@
 ghost use Rattle.std.specs.Prelude.{◌≡◌, ◌≤◌, [], ◌∷◌, ◌++◌, All, length, IfOk, OnOk};
 ghost use Rattle.vnff_base.specs.Shelves.{file_limit};
 ghost use Rattle.vnff_run.specs.Endings.{Judges, ReadsInput};
-ghost use Rattle.vnff_run.specs.ItemLines.{IsCommandWithin, IsWithin};
+ghost use Rattle.vnff_run.specs.ItemLines.{IsCommandWithin, IsItemWithin};
 ghost use Rattle.vnff_run.specs.LiveRuns.{commands_in, live_in, live_run};
 ghost use Rattle.vnff_run.specs.LiveWords.{live_view};
 
@@ -53,7 +53,7 @@ fn run_over(
     script: Script,
     frames: Frames,
 ) -> Result<LiveRun, Stop>
-    requires { All IsWithin script.items }
+    requires { All IsItemWithin script.items }
     ensures run { Judges (Ok (live_run (live_view form.entry) script frames)) result }
     ensures within { IfOk result (λ run. All IsCommandWithin run.commands) }
     ensures few { IfOk result (λ run. length run.commands ≤ length script.items) }
@@ -73,7 +73,7 @@ fn run_over(
 
 /// The commands among items, in order.
 fn commands_in(alloc: Global, items: List<Item>) -> Result<List<AdminLine>, AllocError>
-    requires { All IsWithin items }
+    requires { All IsItemWithin items }
     ensures commands { IfOk result (λ commands. commands ≡ commands_in items) }
     ensures within { IfOk result (λ commands. All IsCommandWithin commands) }
     ensures few { IfOk result (λ commands. length commands ≤ length items) }

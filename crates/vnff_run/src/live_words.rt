@@ -1,7 +1,7 @@
 //! The words of a live run.
 
 ghost use Rattle.std.specs.Prelude.{◌≡◌, ◌≤◌, map, option_map, string_bytes, IfSome, None};
-ghost use Rattle.vnff_run.specs.LiveWords.{first_of, live_of, live_view, live_with, workers_of};
+ghost use Rattle.vnff_run.specs.LiveWords.{first_of, live_of, live_view, live_with, most_workers, workers_of};
 
 use vnff_base::num_read;
 
@@ -23,7 +23,7 @@ pub struct LiveForm<'a> {
 pub fn live_of(words: &[String]) -> Option<LiveForm<'_>>
     ensures words { option_map live_view result ≡ live_of (map string_bytes words.now) }
     ensures workers { IfSome result (λ form. 1 ≤ form.workers) }
-    ensures most_workers { IfSome result (λ form. form.workers ≤ 16) }
+    ensures most_workers { IfSome result (λ form. form.workers ≤ most_workers) }
 {
     match words {
         [form, workers, first, script, capture] if form.as_str() == "live" => live_with(
@@ -46,7 +46,7 @@ fn live_with<'a>(
     ensures words { option_map live_view result
         ≡ live_with (workers_of workers.now) (first_of first.now) script.now capture.now }
     ensures workers { IfSome result (λ form. 1 ≤ form.workers) }
-    ensures most_workers { IfSome result (λ form. form.workers ≤ 16) }
+    ensures most_workers { IfSome result (λ form. form.workers ≤ most_workers) }
 {
     let workers = workers_of(workers)?;
     let first = first_of(first)?;
@@ -63,7 +63,7 @@ fn live_with<'a>(
 fn workers_of(word: &[u8]) -> Option<u8>
     ensures word { result ≡ workers_of word.now }
     ensures least { IfSome result (λ workers. 1 ≤ workers) }
-    ensures most { IfSome result (λ workers. workers ≤ 16) }
+    ensures most { IfSome result (λ workers. workers ≤ most_workers) }
 {
     match num_read(word) {
         Some(workers) if 1 <= workers && workers <= MOST_WORKERS => Some(workers as u8),

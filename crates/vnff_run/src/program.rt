@@ -1,9 +1,10 @@
 //! The program's call: words in, files read, a text written, and a status.
 
 ghost use Rattle.std.specs.Prelude.{◌≡◌, ◌≢◌, ◌≤◌, ◌⊎◌, ◌↔◌, None, IsSomeAnd, false, length, map, string_bytes};
+ghost use Rattle.cap_table.specs.Caps.{most_pairs};
 ghost use Rattle.vnff_run.specs.Endings.{Appended, AppendedFront, AppendedNothing, NoReadFailed, NoWriteFailed};
 ghost use Rattle.vnff_run.specs.Endings.{ReadFailed, WhereTold, WriteFailed};
-ghost use Rattle.vnff_run.specs.Forms.{form_of, form_view};
+ghost use Rattle.vnff_run.specs.Forms.{word_form, form_view};
 ghost use Rattle.vnff_run.specs.Outcomes.{outcome_of};
 ghost use Rattle.vnff_run.specs.SteerEndings.{FormDoes, SinkFailed, SinksSteered, SteerFailed};
 ghost use Rattle.vnff_run.specs.SteerInputs.{is_steer, steering_of};
@@ -11,7 +12,7 @@ ghost use Rattle.vnff_run.specs.SteerInputs.{is_steer, steering_of};
 use crate::compile::compile_table;
 use crate::drain::drain;
 use crate::ending::{FAULTY_WORDS, exit_status};
-use crate::form::{Form, form_of};
+use crate::form::{Form, word_form};
 use crate::load::sum_up_load;
 use crate::replay::replay;
 use crate::steering::steer_frames;
@@ -33,11 +34,11 @@ pub fn plain<S: Shelf, O: Out>(
     rack: &mut Rack,
 ) -> u8
     // A sink for each receive queue.
-    requires { length (⟦<Rack as SinkList>⟧.sinks rack.old) ≡ 16 }
+    requires { length (⟦<Rack as SinkList>⟧.sinks rack.old) ≡ most_pairs }
     ensures known { result ≤ 5 }
 
     // The words alone decide on 2.
-    ensures words { (result ≡ 2) ↔ (form_of (map string_bytes words.now) ≡ None) }
+    ensures words { (result ≡ 2) ↔ (word_form (map string_bytes words.now) ≡ None) }
 
     ensures words_nothing { result ≡ 2 → AppendedNothing (O.state out.old) (O.state out.new) }
 
@@ -72,7 +73,7 @@ pub fn plain<S: Shelf, O: Out>(
         AppendedFront (O.state out.old) (O.state out.new) end.text) }
 
     // Other words than those of `steer`, and 1, 2, 3 and 5, leave every sink.
-    ensures other_sinks { is_steer (form_of (map string_bytes words.now)) ≡ false
+    ensures other_sinks { is_steer (word_form (map string_bytes words.now)) ≡ false
         → ⟦<Rack as SinkList>⟧.sinks rack.new ≡ ⟦<Rack as SinkList>⟧.sinks rack.old }
     ensures same_sinks { result ≢ 0 → result ≢ 4
         → ⟦<Rack as SinkList>⟧.sinks rack.new ≡ ⟦<Rack as SinkList>⟧.sinks rack.old }
@@ -81,7 +82,7 @@ pub fn plain<S: Shelf, O: Out>(
     ensures sinks { SinksSteered (S.state shelf.old) (steering_of (map string_bytes words.now)) result
         (⟦<Rack as SinkList>⟧.sinks rack.old) (⟦<Rack as SinkList>⟧.sinks rack.new) }
 {
-    match form_of(words) {
+    match word_form(words) {
         Some(form) => exit_status(run(alloc, form, shelf, out, rack), out),
         None => FAULTY_WORDS,
     }
@@ -95,7 +96,7 @@ fn run<S: Shelf, O: Out>(
     out: &mut O,
     rack: &mut Rack,
 ) -> Result<(), Stop>
-    requires { length (⟦<Rack as SinkList>⟧.sinks rack.old) ≡ 16 }
+    requires { length (⟦<Rack as SinkList>⟧.sinks rack.old) ≡ most_pairs }
     ensures { FormDoes (form_view form.entry)
         (S.state shelf.old) (S.state shelf.new) (O.state out.old) (O.state out.new)
         (⟦<Rack as SinkList>⟧.sinks rack.old) (⟦<Rack as SinkList>⟧.sinks rack.new) result }

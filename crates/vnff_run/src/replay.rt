@@ -5,7 +5,7 @@ ghost use Rattle.vnff_base.specs.Gatherings.{Gathers};
 ghost use Rattle.vnff_base.specs.Outputs.{Writes};
 ghost use Rattle.vnff_run.specs.Endings.{FormEnds, RunsAs};
 ghost use Rattle.vnff_run.specs.Forms.{Replay};
-ghost use Rattle.vnff_run.specs.ItemLines.{IsCommandWithin, IsWithin};
+ghost use Rattle.vnff_run.specs.ItemLines.{IsCommandWithin, IsItemWithin};
 ghost use Rattle.vnff_run.specs.Outcomes.{done_outcome, outcome_in};
 ghost use Rattle.vnff_run.specs.Replay.{reply_line, frame_line, item_line, lines_of, replay_text, state_after_items};
 ghost use Rattle.ff_headers.specs.Frames.{headers_of};
@@ -36,7 +36,7 @@ pub fn replay<S: Shelf, O: Out>(
 
 /// Replays a script, on a device of its own.
 fn replay_script<O: Out>(alloc: Global, script: Script, out: &mut O) -> Result<(), Stop>
-    requires { All IsWithin script.items }
+    requires { All IsItemWithin script.items }
     ensures { RunsAs (O.state out.old) (O.state out.new) (done_outcome (replay_text script)) result }
 {
     let Script { caps, start, items } = script;
@@ -52,7 +52,7 @@ fn put_text<O: Out>(
     text: &mut Gathered,
     out: &mut O,
 ) -> Result<(), Failed>
-    requires within { All IsWithin items.now }
+    requires within { All IsItemWithin items.now }
     requires none { text.old ≡ [] }
     ensures { Writes (O.state out.old) (O.state out.new) (lines_of bench.old.device items.now) result }
 {
@@ -67,7 +67,7 @@ fn put_items<O: Out>(
     text: &mut Gathered,
     out: &mut O,
 ) -> Result<(), Failed>
-    requires { All IsWithin items.now }
+    requires { All IsItemWithin items.now }
     ensures lines { Gathers (O.state out.old) (O.state out.new) text.old text.new
         (lines_of bench.old.device items.now) result }
     ensures state { OnOk result (bench.new.device ≡ state_after_items bench.old.device items.now) }
@@ -85,7 +85,7 @@ fn put_item<O: Out>(
     text: &mut Gathered,
     out: &mut O,
 ) -> Result<(), Failed>
-    requires { IsWithin item.now }
+    requires { IsItemWithin item.now }
     ensures line { Gathers (O.state out.old) (O.state out.new) text.old text.new
         (item_line bench.old.device item.now) result }
     ensures state { bench.new.device ≡ state_after_items bench.old.device (item.now ∷ []) }

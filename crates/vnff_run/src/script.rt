@@ -1,7 +1,7 @@
 //! Scripts, and what may be wrong with the text of one.
 
 ghost use Rattle.std.specs.Prelude.{◌≡◌, ◌<◌, ◌^◌};
-ghost use Rattle.vnff_run.specs.Readings.{fault_at};
+ghost use Rattle.vnff_run.specs.Readings.{script_fault_at};
 ghost use Rattle.vnff_run.specs.declared.script.LineFault.TheVariants as line_faults;
 ghost use Rattle.vnff_run.specs.declared.script.ScriptFault.TheVariants as faults;
 
@@ -94,7 +94,7 @@ impl LineFault {
     /// The fault with its line.
     pub(crate) fn at(self, line: u64) -> ScriptFault
         requires { line < 2 ^ 32 }
-        ensures { result ≡ fault_at self line }
+        ensures { result ≡ script_fault_at self line }
     {
         match self {
             LineFault::Bad(reason) => reason.at(line),

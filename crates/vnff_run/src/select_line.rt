@@ -5,7 +5,7 @@ ghost use Rattle.ff_headers.specs.Kinds.{kind_code};
 ghost use Rattle.ff_headers.specs.SelectorParts.{IsWhole};
 ghost use Rattle.vnff_base.specs.Lines.{words_of};
 ghost use Rattle.vnff_run.specs.Readings.{IsLineFaultOf};
-ghost use Rattle.vnff_run.specs.SelectLines.{flags_named, is_select, kind_named, selector_of};
+ghost use Rattle.vnff_run.specs.SelectLines.{flags_named, is_select, kind_named, selector_in_line};
 
 use crate::script::{LineFault, Reason};
 use crate::word::{bytes_within, three_words};
@@ -28,10 +28,10 @@ pub(crate) fn behind_select(line: &[u8]) -> Option<&[u8]>
 }
 
 /// The selector that is named by the words behind `select`. Its type is above `last`.
-#[tactic(auto, unfolding(crate::specs::SelectLines::selector_of))]
-pub(crate) fn selector_of(alloc: Global, last: u8, line: &[u8]) -> Result<Selector, LineFault>
-    ensures read { MatchResult result (λ selector. selector_of last (words_of line.now) ≡ Ok selector)
-        (IsLineFaultOf (selector_of last (words_of line.now))) }
+#[tactic(auto, unfolding(crate::specs::SelectLines::selector_in_line))]
+pub(crate) fn selector_in_line(alloc: Global, last: u8, line: &[u8]) -> Result<Selector, LineFault>
+    ensures read { MatchResult result (λ selector. selector_in_line last (words_of line.now) ≡ Ok selector)
+        (IsLineFaultOf (selector_in_line last (words_of line.now))) }
     ensures above { IfOk result (λ selector. last < kind_code selector.kind) }
     ensures whole { IfOk result IsWhole }
 {

@@ -3,11 +3,12 @@
 ghost use Rattle.std.specs.Prelude.{◌≡◌, ◌≤◌, ◌∷◌, [], All, length, IfOk};
 ghost use Rattle.cap_table.specs.States.{start_state};
 ghost use Rattle.cap_table.specs.Steps.{next_state};
+ghost use Rattle.cap_table.specs.Caps.{most_pairs};
 ghost use Rattle.capture.specs.Sizes.{longest_frame};
 ghost use Rattle.vnff_run.specs.Deliveries.{SteerRuns, SteersSinks, steering_on};
 ghost use Rattle.vnff_run.specs.Endings.{ReadsInput};
 ghost use Rattle.vnff_run.specs.Forms.{Steer};
-ghost use Rattle.vnff_run.specs.ItemLines.{IsCommandWithin, IsWithin};
+ghost use Rattle.vnff_run.specs.ItemLines.{IsCommandWithin, IsItemWithin};
 ghost use Rattle.vnff_run.specs.Outcomes.{done_outcome};
 ghost use Rattle.vnff_run.specs.Replay.{state_after_items};
 ghost use Rattle.vnff_run.specs.SteerEndings.{FormDoes};
@@ -34,7 +35,7 @@ pub fn steer_frames<S: Shelf, O: Out>(
     out: &mut O,
     rack: &mut Rack,
 ) -> Result<(), Stop>
-    requires { length (⟦<Rack as SinkList>⟧.sinks rack.old) ≡ 16 }
+    requires { length (⟦<Rack as SinkList>⟧.sinks rack.old) ≡ most_pairs }
     ensures { FormDoes (Steer script.now capture.now)
         (S.state shelf.old) (S.state shelf.new) (O.state out.old) (O.state out.new)
         (⟦<Rack as SinkList>⟧.sinks rack.old) (⟦<Rack as SinkList>⟧.sinks rack.new) result }
@@ -52,7 +53,7 @@ fn steer_input_in<S: Shelf>(
 ) -> Result<(Script, Frames), Stop>
     ensures read { ReadsInput (S.state shelf.old) (S.state shelf.new)
         (steer_input_in script.now capture.now) result }
-    ensures items { IfOk result (λ input. All IsWithin input.0.items) }
+    ensures items { IfOk result (λ input. All IsItemWithin input.0.items) }
     ensures short { IfOk result (λ input. All (λ frame. length frame ≤ longest_frame) input.1) }
 {
     let script = script_in(alloc, script, shelf)?;
@@ -69,9 +70,9 @@ fn steer_script<O: Out>(
     out: &mut O,
     rack: &mut Rack,
 ) -> Result<(), Stop>
-    requires items { All IsWithin script.items }
+    requires items { All IsItemWithin script.items }
     requires short { All (λ frame. length frame ≤ longest_frame) frames.now }
-    requires sinks { length (⟦<Rack as SinkList>⟧.sinks rack.old) ≡ 16 }
+    requires sinks { length (⟦<Rack as SinkList>⟧.sinks rack.old) ≡ most_pairs }
     ensures runs { SteerRuns (O.state out.old) (O.state out.new)
         (done_outcome (steer_text (steering_for (script, frames.now)))) result }
     ensures sinks { SteersSinks (steering_for (script, frames.now))
@@ -85,7 +86,7 @@ fn steer_script<O: Out>(
 
 /// A device of its own behind the commands of a script.
 fn bench_behind_script(alloc: Global, script: Script) -> Result<Bench, AllocError>
-    requires { All IsWithin script.items }
+    requires { All IsItemWithin script.items }
     ensures { IfOk result (λ bench.
         bench.device ≡ state_after_items (start_state script.caps script.start) script.items) }
 {
@@ -106,10 +107,10 @@ fn hand_on<O: Out>(
 ) -> Result<(), Stop>
     requires pairs { bench.now.device.caps.pairs ≡ pairs }
     requires some { 1 ≤ pairs }
-    requires few { pairs ≤ 16 }
+    requires few { pairs ≤ most_pairs }
     requires short { All (λ frame. length frame ≤ longest_frame) frames.now }
     requires none { text.old ≡ [] }
-    requires sinks { length (⟦<Rack as SinkList>⟧.sinks rack.old) ≡ 16 }
+    requires sinks { length (⟦<Rack as SinkList>⟧.sinks rack.old) ≡ most_pairs }
     ensures runs { SteerRuns (O.state out.old) (O.state out.new)
         (done_outcome (steer_text (steering_on bench.now.device frames.now))) result }
     ensures sinks { SteersSinks (steering_on bench.now.device frames.now)
@@ -123,7 +124,7 @@ fn hand_on<O: Out>(
 
 /// Sends the commands among some items to a device, in order. The replies are not asked for.
 fn send_commands(bench: &mut Bench, items: &[Item])
-    requires { All IsWithin items.now }
+    requires { All IsItemWithin items.now }
     ensures { bench.new.device ≡ state_after_items bench.old.device items.now }
 {
     for item in items {
@@ -133,7 +134,7 @@ fn send_commands(bench: &mut Bench, items: &[Item])
 
 /// Does what an item asks of a device: a command is sent, and a frame is skipped.
 fn send_command(bench: &mut Bench, item: &Item)
-    requires { IsWithin item.now }
+    requires { IsItemWithin item.now }
     ensures { bench.new.device ≡ state_after_items bench.old.device (item.now ∷ []) }
 {
     match item {

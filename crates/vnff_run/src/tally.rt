@@ -4,16 +4,21 @@ ghost use Rattle.std.specs.Prelude.{◌≡◌, ◌<◌, ◌≤◌, ◌-◌, ◌^
 ghost use Rattle.std.specs.List.{flat_map, range_with_len};
 ghost use Rattle.vnff_base.specs.Gatherings.{Gathers};
 ghost use Rattle.vnff_base.specs.Outputs.{Writes};
+ghost use Rattle.cap_table.specs.Caps.{most_pairs};
 ghost use Rattle.vnff_run.specs.Steering.{drop_line, queue_line};
 ghost use Rattle.vnff_run.specs.Tallies.{count_line, no_frames, tally_text, tally_with};
 
 use crate::text::put_number;
+use cap_table::MOST_PAIRS;
 use vnff_base::{Failed, Gathered, Out};
+
+/// How many queues are counted: as many as a device may have.
+const QUEUES: usize = MOST_PAIRS as usize;
 
 /// How many frames went to each queue, that of queue 0 first, and how many were dropped.
 #[derive(Clone, Copy, Debug)]
 pub struct Tally {
-    pub queues: [u64; 16],
+    pub queues: [u64; QUEUES],
     pub dropped: u64,
 }
 
@@ -23,14 +28,14 @@ impl Tally {
         ensures { result ≡ no_frames }
     {
         Tally {
-            queues: [0; 16],
+            queues: [0; QUEUES],
             dropped: 0,
         }
     }
 
     /// Counts one more frame, which went to a queue or to none.
     pub(crate) fn count(&mut self, queue: Option<u16>)
-        requires within { (q : ℕ) → queue ≡ Some q → q < 16 }
+        requires within { (q : ℕ) → queue ≡ Some q → q < most_pairs }
         requires room { (q : ℕ) → queue ≡ Some q → slice_index self.old.queues q < 2 ^ 64 - 1 }
         requires room_dropped { queue ≡ None → self.old.dropped < 2 ^ 64 - 1 }
         ensures { self.new ≡ tally_with self.old queue }
@@ -48,7 +53,7 @@ impl Tally {
         text: &mut Gathered,
         out: &mut O,
     ) -> Result<(), Failed>
-        requires few { pairs ≤ 16 }
+        requires few { pairs ≤ most_pairs }
         requires none { text.old ≡ [] }
         ensures { Writes (O.state out.old) (O.state out.new) (tally_text pairs self.now) result }
     {
@@ -59,7 +64,7 @@ impl Tally {
 
     /// Writes the lines of the first queues.
     fn put_queues<O: Out>(&self, pairs: u8, text: &mut Gathered, out: &mut O) -> Result<(), Failed>
-        requires few { pairs ≤ 16 }
+        requires few { pairs ≤ most_pairs }
         ensures { Gathers (O.state out.old) (O.state out.new) text.old text.new
             (flat_map (count_line self.now) (range_with_len 0 pairs)) result }
     {

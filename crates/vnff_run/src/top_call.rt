@@ -1,8 +1,9 @@
 //! The program's call, with the live runs that may wait.
 
 ghost use Rattle.std.specs.Prelude.{◌≡◌, ◌≢◌, ◌≤◌, ◌⊎◌, None, IsSomeAnd, false, length, map, string_bytes};
+ghost use Rattle.cap_table.specs.Caps.{most_pairs};
 ghost use Rattle.vnff_run.specs.Endings.{AppendedNothing, NoReadFailed, NoWriteFailed, ReadFailed, WriteFailed};
-ghost use Rattle.vnff_run.specs.Forms.{form_of};
+ghost use Rattle.vnff_run.specs.Forms.{word_form};
 ghost use Rattle.vnff_run.specs.LiveWords.{live_of};
 ghost use Rattle.vnff_run.specs.PlanEndings.{EndsAs, WherePlanned};
 ghost use Rattle.vnff_run.specs.SteerEndings.{SinkFailed, SinksSteered, SteerFailed};
@@ -37,13 +38,13 @@ pub fn top<R: Threads + Wait + Sync, S: Shelf, O: Out, G: Gate>(
     gate: &G,
 ) -> u8
     // A sink for each receive queue.
-    requires { length (⟦<Rack as SinkList>⟧.sinks rack.old) ≡ 16 }
+    requires { length (⟦<Rack as SinkList>⟧.sinks rack.old) ≡ most_pairs }
     ensures known { result ≤ 5 }
 
     // Words that are no form are 2, and no words of another form but `live` are.
-    ensures words { live_of (map string_bytes words.now) ≡ None → form_of (map string_bytes words.now) ≡ None
+    ensures words { live_of (map string_bytes words.now) ≡ None → word_form (map string_bytes words.now) ≡ None
         → result ≡ 2 }
-    ensures faulty { result ≡ 2 → form_of (map string_bytes words.now) ≡ None }
+    ensures faulty { result ≡ 2 → word_form (map string_bytes words.now) ≡ None }
 
     // Of 0, 1 and 2, the status is the plan's, and what was written is a text of the plan.
     ensures done { result ≤ 2 → WherePlanned (S.state shelf.old) (plan_of (map string_bytes words.now)) (λ plan.
@@ -78,7 +79,7 @@ pub fn top<R: Threads + Wait + Sync, S: Shelf, O: Out, G: Gate>(
         WroteFront plan (O.state out.old) (O.state out.new)) }
 
     // Other words than those of `steer`, and 1, 2, 3 and 5, leave every sink.
-    ensures other_sinks { is_steer (form_of (map string_bytes words.now)) ≡ false
+    ensures other_sinks { is_steer (word_form (map string_bytes words.now)) ≡ false
         → ⟦<Rack as SinkList>⟧.sinks rack.new ≡ ⟦<Rack as SinkList>⟧.sinks rack.old }
     ensures same_sinks { result ≢ 0 → result ≢ 4
         → ⟦<Rack as SinkList>⟧.sinks rack.new ≡ ⟦<Rack as SinkList>⟧.sinks rack.old }
@@ -101,7 +102,7 @@ fn carry_out<R: Threads + Wait + Sync, S: Shelf, O: Out, G: Gate>(
     gate: &G,
 ) -> u8
     // A sink for each receive queue.
-    requires { length (⟦<Rack as SinkList>⟧.sinks rack.old) ≡ 16 }
+    requires { length (⟦<Rack as SinkList>⟧.sinks rack.old) ≡ most_pairs }
     ensures ends { EndsAs
         (SinkFailed (S.state shelf.old) (steering_of (map string_bytes words.now))
         (⟦<Rack as SinkList>⟧.sinks rack.old) (⟦<Rack as SinkList>⟧.sinks rack.new))
@@ -109,10 +110,10 @@ fn carry_out<R: Threads + Wait + Sync, S: Shelf, O: Out, G: Gate>(
         (⟦<Rack as SinkList>⟧.sinks rack.old) (⟦<Rack as SinkList>⟧.sinks rack.new))
         (S.state shelf.old) (S.state shelf.new) (O.state out.old) (O.state out.new)
         (plan_of (map string_bytes words.now)) result }
-    ensures words { live_of (map string_bytes words.now) ≡ None → form_of (map string_bytes words.now) ≡ None
+    ensures words { live_of (map string_bytes words.now) ≡ None → word_form (map string_bytes words.now) ≡ None
         → result ≡ 2 }
-    ensures faulty { result ≡ 2 → form_of (map string_bytes words.now) ≡ None }
-    ensures other_sinks { is_steer (form_of (map string_bytes words.now)) ≡ false
+    ensures faulty { result ≡ 2 → word_form (map string_bytes words.now) ≡ None }
+    ensures other_sinks { is_steer (word_form (map string_bytes words.now)) ≡ false
         → ⟦<Rack as SinkList>⟧.sinks rack.new ≡ ⟦<Rack as SinkList>⟧.sinks rack.old }
     ensures same_sinks { result ≢ 0 → result ≢ 4
         → ⟦<Rack as SinkList>⟧.sinks rack.new ≡ ⟦<Rack as SinkList>⟧.sinks rack.old }

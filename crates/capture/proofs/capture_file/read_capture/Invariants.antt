@@ -1,5 +1,5 @@
 use Rattle.std.proofs.Common.{◌≡◌, ◌-◌, ◌≤◌, length}
-use Rattle.vnff_base.specs.Counts.{count_after}
+use Rattle.vnff_base.specs.Counts.{count_with}
 use Rattle.capture.proofs.FileSteps.{IsReadSoFar}
 use Rattle.capture.proofs.capture_file.read_capture.Given as goal
 
@@ -8,7 +8,7 @@ invariant-loop-taken g l = record {
   so_far : IsReadSoFar (g.S.Shelf.state l.shelf).files l.name l.at l.feed;
   within : l.at ≤ l.limit;
   room : length l.piece.items ≡ 65536;
-  given : count_after (g.S.Shelf.state l.fn.shelf).given l.at ≤ (g.S.Shelf.state l.shelf).given;
+  given : count_with (g.S.Shelf.state l.fn.shelf).given l.at ≤ (g.S.Shelf.state l.shelf).given;
   faults : (g.S.Shelf.state l.shelf).faults ≡ (g.S.Shelf.state l.fn.shelf).faults;
   files : (g.S.Shelf.state l.shelf).files ≡ (g.S.Shelf.state l.fn.shelf).files;
 }

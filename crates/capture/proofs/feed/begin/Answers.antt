@@ -1,7 +1,7 @@
 use Rattle.std.proofs.Common.{◌≡◌, ◌+◌, ◌≤◌, ◌++◌, Ok, Err, length, take, ap, sym, ◌∙◌, subst, arith}
 use Rattle.std.proofs.lemmas.List.{take-append-drop, length-drop}
 use Rattle.std.proofs.lemmas.Result.{IfOk-weaker}
-use Rattle.capture.specs.FileHeaders.{header_of}
+use Rattle.capture.specs.FileHeaders.{file_header}
 use Rattle.capture.specs.Feeds.{StandsFor}
 use Rattle.capture.proofs.FeedSteps.{stands-faulty, header-faulty, header-first}
 use Rattle.capture.proofs.feed.begin.Goals as goal
@@ -9,7 +9,7 @@ use Rattle.capture.proofs.feed.begin.Goals as goal
 pub returns-in-Ok-clause-stands : goal.returns-in-Ok-clause-stands
 returns-in-Ok-clause-stands c =
     let bytes = c.args.bytes.items in
-    let good : header_of bytes ≡ Ok c.in-Ok.kind = ap header_of (sym c.deref.ensures.value) ∙ sym c.in-Ok.ensures.value in
+    let good : file_header bytes ≡ Ok c.in-Ok.kind = ap file_header (sym c.deref.ensures.value) ∙ sym c.in-Ok.ensures.value in
     let first = header-first c.in-Ok.kind bytes good in
     let all : take 24 bytes ++ c.drop_front.new.bytes.items ≡ bytes = ap (λ xs. take 24 bytes ++ xs) c.drop_front.ensures ∙ take-append-drop 24 bytes in
     IfOk-weaker c.go_on.result _ _ (λ feed step. subst (StandsFor feed) all (step (take 24 bytes) first.0 first.1 (first.2 ∙ ap Ok (sym c.requires.none)))) c.go_on.ensures.stands
@@ -24,6 +24,6 @@ returns-in-Ok-clause-count c =
 pub returns-in-Err-clause-stands : goal.returns-in-Err-clause-stands
 returns-in-Err-clause-stands c =
     let bytes = c.args.bytes.items in
-    let bad : header_of bytes ≡ Err c.in-Err.fault = ap header_of (sym c.deref.ensures.value) ∙ sym c.in-Err.ensures.value in
+    let bad : file_header bytes ≡ Err c.in-Err.fault = ap file_header (sym c.deref.ensures.value) ∙ sym c.in-Err.ensures.value in
     let long : 24 ≤ length bytes = omega (arith, c.len.ensures, c.if-len-lt-HEADER_SIZE.false) in
     stands-faulty c.faulty.result bytes c.in-Err.fault c.faulty.ensures (header-faulty bytes c.in-Err.fault long bad)

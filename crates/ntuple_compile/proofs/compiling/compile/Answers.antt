@@ -2,7 +2,7 @@ use Rattle.std.proofs.Common.{◌≡◌, ℕ, List, arith, ap, sym, ◌∙◌, l
 use Rattle.std.proofs.lemmas.List.{length-map}
 use Rattle.ff_headers.specs.declared.limits.Limits.{Limits}
 use Rattle.ntuple_text.specs.declared.spec.Spec.{Spec}
-use Rattle.ntuple_compile.specs.Compiled.{IsFaultOf, compiled, count_faults, creates_of, first_fault, objects_of, shapes_of, specs_fault}
+use Rattle.ntuple_compile.specs.Compiled.{IsCompileFault, compiled, count_faults, creates_of, first_fault, objects_of, shapes_of, specs_fault}
 use Rattle.ntuple_compile.specs.Selected.{selectors_of}
 use Rattle.ntuple_compile.specs.declared.error.CompileErr.{CompileErr}
 use Rattle.ntuple_compile.proofs.CompiledResults.{result_accepted, result_acts, result_writable}
@@ -48,7 +48,7 @@ returns c =
     let made = c.in_ok-commands.ensures ∙ ap (λ l. creates_of (objects_of l c.deref-3.result.now)) c.limits-limits.ensures.value ∙ ap (λ s. creates_of (objects_of caps.limits s)) (c.deref-3.ensures.value ∙ read) in
     let table = c.args.table.now in
     let value = nothing_wrong caps _ none is ∙ ap Ok (sym made) in
-    let Fault = IsFaultOf (compiled table caps) in
+    let Fault = IsCompileFault (compiled table caps) in
     let result = Ok c.in_ok-commands.commands in
     let held = c.in_ok-specs.ensures.table in
     record {

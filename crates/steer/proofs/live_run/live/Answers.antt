@@ -3,7 +3,7 @@ use Rattle.std.specs.Prelude.{All, IfOk, slice_get}
 use Rattle.std.proofs.lemmas.Result.{IfOk-weaker}
 use Rattle.ff_headers.specs.declared.change.Change.TheVariants.{Close}
 use Rattle.snapshots.specs.Workers.{WorkerState}
-use Rattle.steer.specs.LivePhases.{IsOpened, HasBeenLive, HasClosed}
+use Rattle.steer.specs.LivePhases.{IsLiveStart, HasBeenLive, HasClosed}
 use Rattle.steer.specs.LiveRuns.{IsLiveRun, accepted_changes}
 use Rattle.steer.specs.LiveSteps.{HaveRoom}
 use Rattle.steer.specs.Results.{replies_in, log_at, read_of, packet_lines, HasRead}
@@ -39,7 +39,7 @@ close_run-requires g c =
     let done = c.run.new.readers in
     let lines = c.args.commands.now in
     let frames = c.args.frames.now in
-    let opened : IsOpened c.args.caps c.args.start (length lines) (length frames) c.args.workers side items = subst (λ n. IsOpened c.args.caps c.args.start n (length frames) c.args.workers side items) c.len.ensures (subst (λ n. IsOpened c.args.caps c.args.start c.len.result n c.args.workers side items) c.len-2.ensures c.in_ok-side.ensures) in
+    let opened : IsLiveStart c.args.caps c.args.start (length lines) (length frames) c.args.workers side items = subst (λ n. IsLiveStart c.args.caps c.args.start n (length frames) c.args.workers side items) c.len.ensures (subst (λ n. IsLiveStart c.args.caps c.args.start c.len.result n c.args.workers side items) c.len-2.ensures c.in_ok-side.ensures) in
     let ran : HasBeenLive lines frames c.args.workers c.args.after side later items done = subst (λ ws. HasBeenLive lines frames c.args.workers c.args.after side later ws done) c.as_mut_slice.ensures.value c.run.ensures in
     let e = still_open c.args.caps c.args.start lines frames c.args.workers c.args.after side later items done opened ran in
     let back = lent_back c.in_ok-side.readers.len done items (e.as_many ∙ sym opened.as_many) (omega (arith, c.in_ok-side.readers.ok.0)) in
@@ -61,7 +61,7 @@ returns g c =
     let workers = c.args.workers in
     let first = c.args.after in
     let r = c.close_run.result in
-    let opened : IsOpened caps start (length lines) (length frames) workers side items = subst (λ n. IsOpened caps start n (length frames) workers side items) c.len.ensures (subst (λ n. IsOpened caps start c.len.result n workers side items) c.len-2.ensures c.in_ok-side.ensures) in
+    let opened : IsLiveStart caps start (length lines) (length frames) workers side items = subst (λ n. IsLiveStart caps start n (length frames) workers side items) c.len.ensures (subst (λ n. IsLiveStart caps start c.len.result n workers side items) c.len-2.ensures c.in_ok-side.ensures) in
     let ran : HasBeenLive lines frames workers first side later items done = subst (λ ws. HasBeenLive lines frames workers first side later ws done) c.as_mut_slice.ensures.value c.run.ensures in
     let e = still_open caps start lines frames workers first side later items done opened ran in
     let back = lent_back c.in_ok-side.readers.len done items (e.as_many ∙ sym opened.as_many) (omega (arith, c.in_ok-side.readers.ok.0)) in

@@ -1,7 +1,7 @@
 use Rattle.std.proofs.Common.{◌≡◌, [], length, sym, ap, subst, ◌∙◌, arith}
 use Rattle.std.specs.Prelude.{All}
 use Rattle.snapshots.specs.Workers.{WorkerState}
-use Rattle.steer.specs.LivePhases.{IsOpened}
+use Rattle.steer.specs.LivePhases.{IsLiveStart}
 use Rattle.steer.specs.LiveSteps.{HaveTurned, HasKept}
 use Rattle.steer.specs.declared.admin_side.AdminSide.{AdminSide}
 use Rattle.steer.proofs.LiveLemmas.{all_ready, lent_back, on_ok}
@@ -23,7 +23,7 @@ returns g c =
     let turned : HaveTurned R c.args.workers items kept = subst (λ ws. HaveTurned R c.args.workers ws kept) c.as_mut_slice.ensures.value lent in
     let back = lent_back c.in_ok-end.readers.len kept items turned.as_many (omega (arith, c.in_ok-end.readers.ok.0)) in
     let side : AdminSide = record { device = c.in_ok-device.device; end = end; replies = c.in_ok-replies.replies } in
-    let is : IsOpened c.args.caps c.args.start c.args.commands c.args.n c.args.workers side kept = record {
+    let is : IsLiveStart c.args.caps c.args.start c.args.commands c.args.n c.args.workers side kept = record {
       device = c.in_ok-device.ensures.state;
       replies = c.in_ok-replies.ensures.items;
       room = omega (arith, c.in_ok-replies.ensures.exact);
@@ -32,4 +32,4 @@ returns g c =
       as_many = turned.as_many ∙ c.in_ok-end.ensures.as_many;
       ready = all_ready end c.args.n c.args.workers items kept c.in_ok-end.ensures.as_many c.in_ok-end.ensures.workers turned;
     } in
-    subst (IsOpened c.args.caps c.args.start c.args.commands c.args.n c.args.workers side) (sym back) is
+    subst (IsLiveStart c.args.caps c.args.start c.args.commands c.args.n c.args.workers side) (sym back) is

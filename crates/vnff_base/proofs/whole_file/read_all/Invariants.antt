@@ -1,5 +1,5 @@
 use Rattle.std.proofs.Common.{◌≡◌, ◌-◌, ◌≤◌, length}
-use Rattle.vnff_base.specs.Counts.{count_after}
+use Rattle.vnff_base.specs.Counts.{count_with}
 use Rattle.vnff_base.proofs.Reading.{IsFront}
 use Rattle.vnff_base.proofs.whole_file.read_all.Given as goal
 
@@ -8,7 +8,7 @@ invariant-loop-taken g l = record {
   front : IsFront (g.S.Shelf.state l.shelf).files l.name l.bytes.items;
   within : length l.bytes.items ≤ l.limit;
   room : length l.piece.items ≡ 65536;
-  given : count_after (g.S.Shelf.state l.fn.shelf).given (length l.bytes.items) ≤ (g.S.Shelf.state l.shelf).given;
+  given : count_with (g.S.Shelf.state l.fn.shelf).given (length l.bytes.items) ≤ (g.S.Shelf.state l.shelf).given;
   faults : (g.S.Shelf.state l.shelf).faults ≡ (g.S.Shelf.state l.fn.shelf).faults;
   files : (g.S.Shelf.state l.shelf).files ≡ (g.S.Shelf.state l.fn.shelf).files;
 }

@@ -1,12 +1,12 @@
 use Rattle.std.proofs.Common.{◌≡◌, length}
-use Rattle.vnff_run.specs.Grammar.{selectors_in}
+use Rattle.vnff_run.specs.Grammar.{first_selectors}
 use Rattle.vnff_run.specs.Readings.{HasSmallNumbers}
 use Rattle.vnff_run.proofs.SelectLemmas.{RiseTo, selectors_then}
 use Rattle.vnff_run.proofs.grammar.read_selectors.Given as goal
 
 abbrev pub invariant-loop-line : goal.invariant-loop-line
 invariant-loop-line l = record {
-  same : selectors_then l.selectors.items (selectors_in l.last l.reader.left) ≡ selectors_in 0 l.initial.reader.left;
+  same : selectors_then l.selectors.items (first_selectors l.last l.reader.left) ≡ first_selectors 0 l.initial.reader.left;
   rise : RiseTo l.last l.selectors.items;
   small : HasSmallNumbers l.reader;
 }

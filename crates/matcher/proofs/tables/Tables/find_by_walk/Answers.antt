@@ -1,23 +1,15 @@
-use Rattle.std.proofs.Common.{ap, subst}
+use Rattle.std.proofs.Common.{◌≡◌, ap, subst}
 use Rattle.ff_headers.specs.Objects.{FlowObjects}
+use Rattle.matcher.specs.Candidates.{found_with}
 use Rattle.matcher.specs.Tables.{TableState}
-use Rattle.matcher.specs.Findings.{found_none}
-use Rattle.matcher.proofs.FoundLemmas.{Finds, finds, found_from, is_found, none_is_found}
+use Rattle.matcher.specs.Findings.{found_in}
+use Rattle.matcher.proofs.FoundLemmas.{is_found}
 use Rattle.matcher.proofs.tables.Tables.find_by_walk.Goals as goal
 
-pub returns-in-Some : goal.returns-in-Some
-returns-in-Some c =
+pub returns : goal.returns
+returns c =
     let headers = c.args.headers.now in
-    let found = found_from c.in-Some.first in
+    let first = c.first_candidate.result in
     let same = ap (λ (tables : TableState). tables.objects) c.self.view_is in
-    let here = finds c.self.inside.store.objects headers found c.limits-well_formed.ensures.well_formed.by_id.rules_rise (is_found _ _ _ c.in-Some.ensures) in
-    let says = subst (λ (objects : FlowObjects). Finds objects headers found) same here in
-    says.value
-
-pub returns-in-None : goal.returns-in-None
-returns-in-None c =
-    let headers = c.args.headers.now in
-    let same = ap (λ (tables : TableState). tables.objects) c.self.view_is in
-    let here = finds c.self.inside.store.objects headers found_none c.limits-well_formed.ensures.well_formed.by_id.rules_rise (none_is_found _ _ c.in-None.ensures) in
-    let says = subst (λ (objects : FlowObjects). Finds objects headers found_none) same here in
-    says.value
+    let found = is_found c.self.inside.store.objects headers first c.first_candidate.ensures in
+    rw c.found_with.ensures (subst (λ (objects : FlowObjects). found_with first ≡ found_in objects headers) same found)

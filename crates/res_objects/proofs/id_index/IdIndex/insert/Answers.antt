@@ -1,7 +1,7 @@
 use Rattle.std.proofs.Common.{ap, subst, arith}
 use Rattle.res_objects.specs.Linked.{SlotIndex}
-use Rattle.res_objects.specs.Places.{IsIndex}
-use Rattle.res_objects.proofs.Places.{insert_gap, lookup_at, IsIndex-insert_entry}
+use Rattle.res_objects.specs.Places.{IsIdIndex}
+use Rattle.res_objects.proofs.Places.{insert_gap, lookup_at, IsIdIndex-insert_entry}
 use Rattle.res_objects.proofs.id_index.IdIndex.insert.Goals as goal
 
 -- the id goes into its gap
@@ -13,8 +13,8 @@ returns-in-Err-clause-slots c =
 
 pub invariant_of-self : goal.invariant_of-self
 invariant_of-self c =
-    let index = subst IsIndex (ap (λ (index : SlotIndex). index.slots) c.self.view_is) c.self.invariant in
-    rw (returns-in-Err-clause-slots c) (IsIndex-insert_entry _ c.args.id c.args.slot (omega arith) index)
+    let index = subst IsIdIndex (ap (λ (index : SlotIndex). index.slots) c.self.view_is) c.self.invariant in
+    rw (returns-in-Err-clause-slots c) (IsIdIndex-insert_entry _ c.args.id c.args.slot (omega arith) index)
 
 pub returns-in-Err-clause-ordered : goal.returns-in-Err-clause-ordered
 returns-in-Err-clause-ordered c = (invariant_of-self c).ordered

@@ -1,8 +1,8 @@
 use Rattle.std.proofs.Common.{ap, subst, sym, arith}
 use Rattle.std.proofs.lemmas.List.{get_or_default}
 use Rattle.res_objects.specs.Linked.{SlotIndex}
-use Rattle.res_objects.specs.Places.{IsIndex}
-use Rattle.res_objects.proofs.Places.{lookup_at, lookup_gap, remove_at, remove_entry-absent, IsIndex-remove_entry}
+use Rattle.res_objects.specs.Places.{IsIdIndex}
+use Rattle.res_objects.proofs.Places.{lookup_at, lookup_gap, remove_at, remove_entry-absent, IsIdIndex-remove_entry}
 use Rattle.res_objects.proofs.id_index.IdIndex.remove.Goals as goal
 
 -- the slot at the id's place was given
@@ -20,8 +20,8 @@ returns-in-Ok-clause-slots c =
 
 pub invariant_of-self : goal.invariant_of-self
 invariant_of-self c =
-    let index = subst IsIndex (ap (λ (index : SlotIndex). index.slots) c.self.view_is) c.self.invariant in
-    rw (returns-in-Ok-clause-slots c) (IsIndex-remove_entry _ c.args.id index)
+    let index = subst IsIdIndex (ap (λ (index : SlotIndex). index.slots) c.self.view_is) c.self.invariant in
+    rw (returns-in-Ok-clause-slots c) (IsIdIndex-remove_entry _ c.args.id index)
 
 pub returns-in-Ok-clause-ordered : goal.returns-in-Ok-clause-ordered
 returns-in-Ok-clause-ordered c = (invariant_of-self c).ordered

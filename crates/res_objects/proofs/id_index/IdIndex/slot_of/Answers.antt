@@ -1,7 +1,7 @@
 use Rattle.std.proofs.Common.{ap, subst, sym, arith}
 use Rattle.std.proofs.lemmas.List.{get_or_default}
 use Rattle.res_objects.specs.Linked.{SlotIndex}
-use Rattle.res_objects.specs.Places.{IsIndex}
+use Rattle.res_objects.specs.Places.{IsIdIndex}
 use Rattle.res_objects.proofs.Places.{lookup_at, lookup_gap, spare_id}
 use Rattle.res_objects.proofs.id_index.IdIndex.slot_of.Goals as goal
 
@@ -18,5 +18,5 @@ returns-in-Err-clause-value c = sym (lookup_gap _ _ _ c.in-Err.ensures.absent)
 
 pub returns-in-Err-clause-spare : goal.returns-in-Err-clause-spare
 returns-in-Err-clause-spare c =
-    let index = subst IsIndex (ap (λ (index : SlotIndex). index.slots) c.self.view_is) c.self.invariant in
+    let index = subst IsIdIndex (ap (λ (index : SlotIndex). index.slots) c.self.view_is) c.self.invariant in
     spare_id _ c.args.id (omega arith) index (lookup_gap _ _ _ c.in-Err.ensures.absent)
