@@ -26,7 +26,7 @@ use Rattle.cap_table.specs.States.{DeviceState, start_state}
 use Rattle.cap_table.specs.Verdicts.{first_verdict, verdict_rows, layout_rows, read_rows, command_rows}
 use Rattle.cap_table.specs.Answers.{answer_of, verdict_of, accepted, refused_or, effect_for, effect_with, change_of}
 use Rattle.cap_table.specs.Steps.{effect_of, effect_in, with_effect, next_state, state_after}
-use Rattle.cap_table.specs.declared.setting.CapErr.{CapErr}
+use Rattle.cap_table.specs.declared.error.CapErr.{CapErr}
 use Rattle.cap_table.specs.declared.start.Start.{Start}
 use Rattle.cap_table.specs.declared.start.Start.TheVariants.{Ready, Reset}
 use Rattle.cap_table.specs.declared.verdict.Verdict.{Verdict}

@@ -9,7 +9,7 @@ use Rattle.admin_wire.specs.declared.command.RawList.TheVariants.{Good, Odd}
 use Rattle.cap_table.specs.Caps.{CapsParts}
 use Rattle.cap_table.specs.CapSets.{cap_fault}
 use Rattle.cap_table.specs.CapResults.{list_words, cap_result}
-use Rattle.cap_table.specs.declared.setting.CapErr.TheVariants as faults
+use Rattle.cap_table.specs.declared.error.CapErr.TheVariants as faults
 
 -- the ids 0x800 to 0x802 are the lowest bits of word 32
 the_bitmap : list_words ≡ replicate 32 0 ++ 7 ∷ []

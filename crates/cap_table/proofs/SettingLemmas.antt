@@ -14,7 +14,7 @@ use Rattle.admin_wire.specs.declared.command.RawList.TheVariants.{Good, Odd}
 use Rattle.admin_wire.specs.LaidOut.{HasCapLayout}
 use Rattle.cap_table.specs.Caps.{CapsParts, DriverParts, AtMost, AreSelectors}
 use Rattle.cap_table.specs.CapSets.{is_some_above, cap_fault, IsRising, IsSettable, with_cap, IsDriverWithin}
-use Rattle.cap_table.specs.declared.setting.CapErr.{CapErr}
+use Rattle.cap_table.specs.declared.error.CapErr.{CapErr}
 
 -- ---- what isn't refused can be set
 

@@ -32,7 +32,7 @@ use Rattle.cap_table.specs.declared.start.Start.TheVariants.{Ready, Reset}
 use Rattle.cap_table.specs.declared.verdict.Verdict.{Verdict}
 use Rattle.cap_table.specs.declared.answer.Effect.{Effect}
 use Rattle.cap_table.specs.declared.answer.Effect.TheVariants as effects
-use Rattle.cap_table.specs.declared.setting.CapErr.{CapErr}
+use Rattle.cap_table.specs.declared.error.CapErr.{CapErr}
 use Rattle.cap_table.proofs.RowLemmas.{back_of_none, clear}
 use Rattle.cap_table.proofs.AcceptedChanges.{IsAccepted, accepted_change}
 use Rattle.cap_table.proofs.SettingLemmas.{within_if_whole}

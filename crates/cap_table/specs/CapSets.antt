@@ -13,8 +13,8 @@ use Rattle.admin_wire.specs.declared.command.CapData.TheVariants as caps
 use Rattle.admin_wire.specs.declared.command.RawList.{RawList}
 use Rattle.admin_wire.specs.declared.command.RawList.TheVariants.{Good, Odd}
 use Rattle.cap_table.specs.Caps.{CapsParts, DriverParts, AtMost, AreSelectors, selector_of_kind}
-use Rattle.cap_table.specs.declared.setting.CapErr.{CapErr}
-use Rattle.cap_table.specs.declared.setting.CapErr.TheVariants as faults
+use Rattle.cap_table.specs.declared.error.CapErr.{CapErr}
+use Rattle.cap_table.specs.declared.error.CapErr.TheVariants as faults
 
 -- ---- why a capability isn't set
 

@@ -1,7 +1,6 @@
 //! What a device offers, and what its driver set of it.
 
-ghost use Rattle.std.specs.Prelude.{◌≡◌, ◌≤◌, All};
-ghost use Rattle.ff_headers.specs.SelectorParts.{IsWhole};
+ghost use Rattle.std.specs.Prelude.{◌≡◌, ◌≤◌};
 ghost use Rattle.cap_table.specs.Caps.{AreCaps, AreSelectors, AtMost, greatest_limits, most_pairs, all_selectors, same_as, unset};
 ghost use Rattle.cap_table.specs.Caps.{is_action_set, are_supported};
 ghost use Rattle.cap_table.specs.CapSets.{IsSettable, with_cap};
@@ -9,7 +8,7 @@ ghost use Rattle.cap_table.specs.CapSets.{IsSettable, with_cap};
 use crate::support::is_supported;
 use admin_wire::{CapData, RawList, VIRTIO_NET_FF_ACTION_DROP, VIRTIO_NET_FF_ACTION_RX_VQ};
 use arrayvec::ArrayVec;
-use ff_headers::{Kind, Limits, Selector};
+use ff_headers::{Kind, Limits, Selector, copied_selectors};
 use std::marker::Model;
 
 /// The queue pairs that a device has at most. This project's own.
@@ -142,7 +141,7 @@ impl DriverCaps {
     {
         DriverCaps {
             limits: device.limits,
-            selectors: copied(&device.selectors),
+            selectors: copied_selectors(device.selectors.as_slice()),
             drop: true,
             queue: true,
         }
@@ -192,7 +191,7 @@ impl DriverCaps {
     {
         DriverCaps {
             limits: self.limits,
-            selectors: copied(&self.selectors),
+            selectors: copied_selectors(self.selectors.as_slice()),
             drop: self.drop,
             queue: self.queue,
         }
@@ -206,7 +205,9 @@ impl DriverCaps {
     {
         match wanted {
             CapData::Limits(limits) => self.limits = *limits,
-            CapData::Selectors(RawList::Good(list)) => self.selectors = copied(list),
+            CapData::Selectors(RawList::Good(list)) => self.selectors = copied_selectors(
+                list.as_slice(),
+            ),
             CapData::Actions(actions) => {
                 self.drop = actions.drop;
                 self.queue = actions.queue;
@@ -214,18 +215,6 @@ impl DriverCaps {
             CapData::Selectors(RawList::Odd) | CapData::Other(_) => {}
         }
     }
-}
-
-/// The selectors, in a list that takes no memory.
-fn copied(selectors: &ArrayVec<Selector, 5>) -> ArrayVec<Selector, 5>
-    ensures value { result.items ≡ selectors.now.items }
-    ensures whole { All IsWhole selectors.now.items }
-{
-    let mut copies = ArrayVec::new();
-    for selector in selectors.as_slice() {
-        copies.push(selector.copy());
-    }
-    copies
 }
 
 /// A selector of ones for each header, of which any part may be asked for.

@@ -27,6 +27,7 @@
 mod answer;
 mod cap_results;
 mod capabilities;
+mod error;
 pub mod laws;
 mod opcodes;
 mod setting;
@@ -37,8 +38,9 @@ mod verdict;
 pub use answer::{Answer, Effect};
 pub use cap_results::{cap_result, list_bytes, list_words};
 pub use capabilities::{DeviceCaps, DriverCaps, GREATEST_LIMITS, MOST_PAIRS};
+pub use error::CapErr;
 pub use opcodes::{has_opcode, has_other_opcode, is_opcode_in, opcode_bytes, opcodes_used};
-pub use setting::{CapErr, may_set};
+pub use setting::may_set;
 pub use start::Start;
 pub use support::is_supported;
 pub use verdict::Verdict;

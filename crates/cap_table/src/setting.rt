@@ -7,24 +7,10 @@ ghost use Rattle.admin_wire.specs.declared.command.CapData.TheVariants as caps;
 ghost use Rattle.cap_table.specs.CapSets.{is_some_above, is_type_missing, is_mask_refused, cap_fault, IsSettable};
 
 use crate::capabilities::DeviceCaps;
+use crate::error::CapErr;
 use crate::support::selector_of_kind;
 use admin_wire::{CapData, RawList};
 use ff_headers::{Limits, Selector, allowed, is_partial, rises};
-
-/// Why a capability isn't set. The first that holds is given.
-#[derive(Clone, Copy, Debug, PartialEq, Eq)]
-pub enum CapErr {
-    /// The id is none of the three.
-    Id,
-    /// A limit is above the device's.
-    Above,
-    /// The list of selectors is odd, its types don't rise strictly, or the device has no selector of a type.
-    SelectorType,
-    /// The device's selector of the type doesn't allow a mask, or PARTIAL_MASK is set and the device's isn't.
-    Mask,
-    /// An action byte is neither of the two.
-    Action,
-}
 
 /// Whether the device lets its driver set the capability, or else why not.
 #[tactic(auto, unfolding(crate::specs::CapSets::cap_fault))]

@@ -13,7 +13,7 @@ use Rattle.ff_headers.specs.Changes.{is_sound, with_change_made, step, after, ch
 use Rattle.ff_headers.specs.declared.kind.Kind.{Kind}
 use Rattle.ff_headers.specs.declared.kind.Kind.TheVariants.{Eth, Ipv4, Ipv6, Tcp, Udp}
 use Rattle.ff_headers.specs.declared.limits.Limits.{Limits}
-use Rattle.ff_headers.specs.declared.selectors.ShapeErr.TheVariants.{Empty, Order, BothIp, BothPorts}
+use Rattle.ff_headers.specs.declared.error.ShapeErr.TheVariants.{Empty, Order, BothIp, BothPorts}
 use Rattle.ff_headers.specs.declared.change.Change.{Change}
 use Rattle.ff_headers.specs.declared.change.Change.TheVariants.{PutGroup, DropGroup, PutClassifier, PutRule, DropRule, Close}
 use Rattle.ff_headers.specs.declared.rule.RuleAction.TheVariants as rule_action

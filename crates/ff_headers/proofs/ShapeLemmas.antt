@@ -11,8 +11,8 @@ use Rattle.ff_headers.specs.Shapes.{codes_of, rises, has_kind, Names, HasShape, 
 use Rattle.ff_headers.specs.Matching.{key_size}
 use Rattle.ff_headers.specs.declared.kind.Kind.{Kind}
 use Rattle.ff_headers.specs.declared.kind.Kind.TheVariants.{Eth, Ipv4, Ipv6, Tcp, Udp}
-use Rattle.ff_headers.specs.declared.selectors.ShapeErr.{ShapeErr}
-use Rattle.ff_headers.specs.declared.selectors.ShapeErr.TheVariants.{Empty, Order, BothIp, BothPorts}
+use Rattle.ff_headers.specs.declared.error.ShapeErr.{ShapeErr}
+use Rattle.ff_headers.specs.declared.error.ShapeErr.TheVariants.{Empty, Order, BothIp, BothPorts}
 use Rattle.ff_headers.proofs.Rising.{rises-from_increasing, increasing_from_rises, rises_parts}
 
 -- what the tests of good shape say of a list, beside that it isn't empty

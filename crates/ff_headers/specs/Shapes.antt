@@ -8,8 +8,8 @@ use Rattle.ff_headers.specs.Kinds.{kind_code}
 use Rattle.ff_headers.specs.SelectorParts.{SelectorParts, IsWhole}
 use Rattle.ff_headers.specs.declared.kind.Kind.{Kind}
 use Rattle.ff_headers.specs.declared.kind.Kind.TheVariants.{Ipv4, Ipv6, Tcp, Udp}
-use Rattle.ff_headers.specs.declared.selectors.ShapeErr.{ShapeErr}
-use Rattle.ff_headers.specs.declared.selectors.ShapeErr.TheVariants.{Empty, Order, BothIp, BothPorts}
+use Rattle.ff_headers.specs.declared.error.ShapeErr.{ShapeErr}
+use Rattle.ff_headers.specs.declared.error.ShapeErr.TheVariants.{Empty, Order, BothIp, BothPorts}
 
 -- the type bytes of the selectors, in order
 abbrev pub codes_of : List SelectorParts → List ℕ

@@ -20,6 +20,7 @@
 #![tactic(auto)]
 
 mod change;
+mod error;
 mod field;
 mod frame;
 mod headers;
@@ -34,6 +35,7 @@ mod selectors;
 mod steps;
 
 pub use change::Change;
+pub use error::ShapeErr;
 pub use field::{Field, fields_of};
 pub use headers::{Headers, PROTOCOL_TCP, PROTOCOL_UDP};
 pub use kind::Kind;
@@ -41,6 +43,6 @@ pub use limits::Limits;
 pub use mask_rule::{PARTIAL_MASK, allowed, is_partial};
 pub use matching::matches;
 pub use rule::{Action, Key, RuleAction, RuleObj};
-pub use selector::Selector;
-pub use selectors::{Selectors, ShapeErr, rises};
+pub use selector::{Selector, copied_bytes};
+pub use selectors::{Selectors, copied_selectors, rises};
 pub use steps::{Steps, cmp_key};

@@ -82,7 +82,7 @@ impl Default for Selector {
 }
 
 /// The bytes, in a list that takes no memory.
-pub(crate) fn copied_bytes<const N: usize>(bytes: &[u8]) -> ArrayVec<u8, N>
+pub fn copied_bytes<const N: usize>(bytes: &[u8]) -> ArrayVec<u8, N>
     requires { length bytes.now ≤ N }
     ensures { result.items ≡ bytes.now }
 {

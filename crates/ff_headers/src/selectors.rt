@@ -3,23 +3,11 @@ ghost use Rattle.ff_headers.specs.SelectorParts.{SelectorParts, IsWhole};
 ghost use Rattle.ff_headers.specs.Shapes.{HasShape, IsClassifier, shaped, shape_fault, has_kind, codes_of, rises};
 ghost use Rattle.ff_headers.specs.Matching.{key_size};
 
+use crate::error::ShapeErr;
 use crate::kind::Kind;
 use crate::selector::Selector;
 use arrayvec::ArrayVec;
 use std::marker::Model;
-
-/// Why a list of selectors has no good shape. The first that holds is given.
-#[derive(Clone, Copy, Debug, PartialEq, Eq)]
-pub enum ShapeErr {
-    /// There is no selector.
-    Empty,
-    /// The types don't rise strictly.
-    Order,
-    /// There are both an IPv4 and an IPv6 selector.
-    BothIp,
-    /// There are both a TCP and a UDP selector.
-    BothPorts,
-}
 
 /// The selectors of a classifier: one to three, of good shape.
 #[derive(Debug, Drop, PartialEq, Eq)]
@@ -81,8 +69,8 @@ impl Selectors {
 }
 
 /// The selectors, in a list that takes no memory.
-fn copied_selectors(list: &[Selector]) -> ArrayVec<Selector, 3>
-    requires { length list.now ≤ 3 }
+pub fn copied_selectors<const N: usize>(list: &[Selector]) -> ArrayVec<Selector, N>
+    requires { length list.now ≤ N }
     ensures value { result.items ≡ list.now }
     ensures whole { All IsWhole list.now }
 {

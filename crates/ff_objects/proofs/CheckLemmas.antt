@@ -9,7 +9,7 @@ use Rattle.ff_headers.specs.Objects.{FlowObjects, object_under}
 use Rattle.ff_headers.specs.Changes.{is_sound}
 use Rattle.ff_headers.specs.declared.limits.Limits.{Limits}
 use Rattle.ff_headers.specs.declared.change.Change.{Change}
-use Rattle.ff_headers.specs.declared.selectors.ShapeErr.{ShapeErr}
+use Rattle.ff_headers.specs.declared.error.ShapeErr.{ShapeErr}
 use Rattle.admin_wire.specs.declared.command.Command.{Command}
 use Rattle.admin_wire.specs.declared.command.Command.TheVariants.{Create, Modify}
 use Rattle.admin_wire.specs.declared.command.ObjData.TheVariants.{Rule}

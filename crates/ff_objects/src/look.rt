@@ -13,7 +13,6 @@ ghost use Rattle.cap_table.specs.Statuses.{no_object};
 ghost use Rattle.cap_table.specs.Verdicts.{first_verdict, command_rows};
 
 use crate::objects::Objects;
-use crate::rule::copied;
 use admin_wire::{
     ObjData, ObjHead, RawKey, RawList, RawRule, VIRTIO_NET_FF_ACTION_DROP,
     VIRTIO_NET_FF_ACTION_RX_VQ, VIRTIO_NET_RESOURCE_OBJ_FF_CLASSIFIER,
@@ -21,7 +20,7 @@ use admin_wire::{
 };
 use arrayvec::ArrayVec;
 use cap_table::Verdict;
-use ff_headers::{RuleAction, RuleObj, Selector, Selectors};
+use ff_headers::{RuleAction, RuleObj, Selectors, copied_bytes, copied_selectors};
 use ff_store::Store;
 
 impl Objects {
@@ -101,19 +100,7 @@ fn classifier_data(selectors: &Selectors) -> ObjData
     ensures value { result ≡ classifier_data selectors.now }
     ensures fits { length (written (object_fields result)) ≤ most_command_bytes }
 {
-    ObjData::Classifier(RawList::Good(copied_list(selectors.as_slice())))
-}
-
-/// The selectors, in a list that takes no memory.
-fn copied_list(selectors: &[Selector]) -> ArrayVec<Selector, 5>
-    requires { length selectors.now ≤ 5 }
-    ensures { result.items ≡ selectors.now }
-{
-    let mut list = ArrayVec::new();
-    for selector in selectors {
-        list.push(selector.copy());
-    }
-    list
+    ObjData::Classifier(RawList::Good(copied_selectors(selectors.as_slice())))
 }
 
 /// A rule as the data that lays it out.
@@ -128,7 +115,7 @@ fn rule_data(rule: &RuleObj) -> ObjData
         priority: rule.priority(),
         action: byte_of_action(rule.action()),
         vq: rule.vq(),
-        key: RawKey::Good(copied(rule.key())),
+        key: RawKey::Good(copied_bytes(rule.key())),
     })
 }
 

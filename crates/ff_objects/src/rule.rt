@@ -7,7 +7,7 @@ ghost use Rattle.cap_table.specs.Verdicts.{unless_refused, rule_faults, rule_row
 
 use admin_wire::{RawKey, RawRule, VIRTIO_NET_FF_ACTION_DROP, VIRTIO_NET_FF_ACTION_RX_VQ};
 use cap_table::{DeviceCaps, DriverCaps, Verdict};
-use ff_headers::{Key, RuleAction, RuleObj};
+use ff_headers::{RuleAction, RuleObj, copied_bytes};
 use ff_store::Store;
 
 /// The rule that may be held under the id, or the verdict of the first row of its content that holds.
@@ -52,7 +52,7 @@ pub(crate) fn rule_in(
         rule.priority,
         action_of_byte(rule.action),
         rule.vq,
-        copied(key),
+        copied_bytes(key),
     ))
 }
 
@@ -72,13 +72,4 @@ fn action_of_byte(action: u8) -> RuleAction
     } else {
         RuleAction::Queue
     }
-}
-
-/// An equal key. It takes no memory.
-pub(crate) fn copied(key: &Key) -> Key
-    ensures { result.items ≡ key.now.items }
-{
-    let mut copy = Key::new();
-    copy.try_extend_from_slice(key).unwrap();
-    copy
 }

@@ -11,8 +11,8 @@ use Rattle.ff_headers.specs.Objects.{object_under, IsById}
 use Rattle.ff_headers.specs.Changes.{put, without, has_room}
 use Rattle.ff_headers.proofs.EntryLemmas.{put-cons, without-cons, object_under-put, object_under-without}
 use Rattle.res_objects.specs.BoundedMap.{BoundedMap, object_of, without_object}
-use Rattle.res_objects.specs.declared.obj_err.ObjErr.{ObjErr}
-use Rattle.res_objects.specs.declared.obj_err.ObjErr.TheVariants.{Missing}
+use Rattle.res_objects.specs.declared.error.ObjErr.{ObjErr}
+use Rattle.res_objects.specs.declared.error.ObjErr.TheVariants.{Missing}
 use Rattle.res_objects.proofs.Places.{remove_entry-absent}
 use Rattle.ff_store.specs.Counts.{objects_of, count_of}
 use Rattle.ff_store.specs.declared.counted.Counted.{Counted}

@@ -1,7 +1,7 @@
 -- Guest memory as a list of bytes. This project's own.
 use Rattle.std.specs.Prelude.{◌≡◌, ℕ, ◌+◌, ◌<◌, ◌≤◌, ◌++◌, nat_le, if◌then◌else◌, List, length, take, drop, slice_index, Result, Ok, Err, ⊤}
-use Rattle.guest_mem.specs.declared.mem_err.MemErr.{MemErr}
-use Rattle.guest_mem.specs.declared.mem_err.MemErr.TheVariants.{Outside}
+use Rattle.guest_mem.specs.declared.error.MemErr.{MemErr}
+use Rattle.guest_mem.specs.declared.error.MemErr.TheVariants.{Outside}
 
 -- what a read or write of so many bytes at an address answers: they lie in the memory, or pass its end. The sum is one
 -- of numbers and never wraps.

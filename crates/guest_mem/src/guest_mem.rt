@@ -4,7 +4,7 @@ ghost use Rattle.std.specs.Result.{result_err};
 ghost use Rattle.byte_numbers.specs.Bytes.{IsBytes};
 ghost use Rattle.guest_mem.specs.Memory.{access_answer, bytes_at, with_bytes, WritesAt};
 
-use crate::mem_err::MemErr;
+use crate::error::MemErr;
 use std::alloc::{AllocError, Global};
 use std::marker::Model;
 

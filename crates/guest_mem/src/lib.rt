@@ -11,8 +11,8 @@
 //! changed, in `proofs/Bytes.antt` and `proofs/Changes.antt`.
 #![tactic(auto)]
 
+mod error;
 mod guest_mem;
-mod mem_err;
 
+pub use error::MemErr;
 pub use guest_mem::GuestMem;
-pub use mem_err::MemErr;

@@ -3,8 +3,8 @@ use Rattle.std.proofs.Common.{◌≡◌, ◌≢◌, ◌↔◌, ℕ, ◌==◌, tr
 use Rattle.std.specs.Bool.{⊤}
 use Rattle.std.proofs.lemmas.Bool.{cases_eq}
 use Rattle.std.proofs.lemmas.Bool.Decides.{nat_tests}
-use Rattle.res_objects.specs.declared.obj_err.ObjErr.{ObjErr}
-use Rattle.res_objects.specs.declared.obj_err.ObjErr.TheVariants.{Exists, Full}
+use Rattle.res_objects.specs.declared.error.ObjErr.{ObjErr}
+use Rattle.res_objects.specs.declared.error.ObjErr.TheVariants.{Exists, Full}
 use Rattle.res_objects.specs.Answers.{create_answer}
 use Rattle.res_objects.specs.BoundedMap.{BoundedMap, object_of}
 

@@ -1,6 +1,6 @@
 -- Worked examples of the definitions that the contracts cite.
 use Rattle.std.proofs.Common.{◌≡◌, ℕ, [], ◌∷◌, Some, None, Ok, Err, refl}
-use Rattle.res_objects.specs.declared.obj_err.ObjErr.TheVariants.{Exists, Full}
+use Rattle.res_objects.specs.declared.error.ObjErr.TheVariants.{Exists, Full}
 use Rattle.res_objects.specs.Answers.{create_answer}
 use Rattle.res_objects.specs.BoundedMap.{BoundedMap, object_of, with_object, without_object}
 use Rattle.res_objects.specs.Linked.{entries_of, object_in}

@@ -1,7 +1,7 @@
 -- What the calls of `ObjMap` answer, each refusal exactly where it is due. This project's own.
 use Rattle.std.specs.Prelude.{ℕ, ◌==◌, if◌then◌else◌, Result, Ok, Err, is_some, length, ⊤}
-use Rattle.res_objects.specs.declared.obj_err.ObjErr.{ObjErr}
-use Rattle.res_objects.specs.declared.obj_err.ObjErr.TheVariants.{Exists, Full}
+use Rattle.res_objects.specs.declared.error.ObjErr.{ObjErr}
+use Rattle.res_objects.specs.declared.error.ObjErr.TheVariants.{Exists, Full}
 use Rattle.res_objects.specs.BoundedMap.{BoundedMap, object_of}
 
 module _ {T : Type 0} where

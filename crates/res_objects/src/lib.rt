@@ -19,10 +19,10 @@
 //! `specs/Linked.antt` says how an index and slots make a map.
 #![tactic(auto)]
 
+mod error;
 mod id_index;
-mod obj_err;
 mod obj_map;
 mod slots;
 
-pub use obj_err::ObjErr;
+pub use error::ObjErr;
 pub use obj_map::ObjMap;

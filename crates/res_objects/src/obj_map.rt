@@ -4,8 +4,8 @@ ghost use Rattle.std.specs.Option.{ok_or, option_copied, option_map};
 ghost use Rattle.res_objects.specs.Answers.{create_answer};
 ghost use Rattle.res_objects.specs.BoundedMap.{object_of, with_object, without_object, deref_object, IsBounded};
 
+use crate::error::ObjErr;
 use crate::id_index::IdIndex;
-use crate::obj_err::ObjErr;
 use crate::slots::Slots;
 use std::alloc::{AllocError, Global};
 use std::marker::Model;

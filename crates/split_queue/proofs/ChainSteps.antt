@@ -7,8 +7,8 @@ use Rattle.split_queue.specs.Walks.{bare_chain, with_buffer, next_in_chain, chai
 use Rattle.split_queue.specs.declared.queue_place.Place.{Place}
 use Rattle.split_queue.specs.declared.descriptor.Descriptor.{Descriptor}
 use Rattle.split_queue.specs.declared.chain.Chain.{Chain}
-use Rattle.split_queue.specs.declared.ring_err.RingErr.{RingErr}
-use Rattle.split_queue.specs.declared.ring_err.RingErr.TheVariants as fault
+use Rattle.split_queue.specs.declared.error.RingErr.{RingErr}
+use Rattle.split_queue.specs.declared.error.RingErr.TheVariants as fault
 
 module _ (mem : List ℕ) (place : Place) (visited : List ℕ) (chain : Chain) where
   pub chain_from-fault : (more number : ℕ) (f : RingErr) → next_in_chain mem place visited chain number ≡ Err f → chain_from mem place visited chain more number ≡ Err f

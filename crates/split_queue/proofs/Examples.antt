@@ -8,8 +8,8 @@ use Rattle.split_queue.specs.Rings.{with_used_entry}
 use Rattle.split_queue.specs.Setup.{setup_fault}
 use Rattle.split_queue.specs.Walks.{buffer_of, buffer_fault, next_fault, next_in_chain, chain_from, chain_of, fault_in_walk}
 use Rattle.split_queue.specs.declared.queue_place.Place.{Place}
-use Rattle.split_queue.specs.declared.setup.SetupErr.TheVariants as setup
-use Rattle.split_queue.specs.declared.ring_err.RingErr.TheVariants as fault
+use Rattle.split_queue.specs.declared.error.SetupErr.TheVariants as setup
+use Rattle.split_queue.specs.declared.error.RingErr.TheVariants as fault
 
 -- ---- places
 

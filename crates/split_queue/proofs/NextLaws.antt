@@ -6,8 +6,8 @@ use Rattle.split_queue.specs.Descriptors.{descriptor_at, has_next}
 use Rattle.split_queue.specs.Walks.{buffer_fault, next_fault, next_in_chain, NamesNext}
 use Rattle.split_queue.specs.declared.queue_place.Place.{Place}
 use Rattle.split_queue.specs.declared.chain.Chain.{Chain}
-use Rattle.split_queue.specs.declared.ring_err.RingErr.{RingErr}
-use Rattle.split_queue.specs.declared.ring_err.RingErr.TheVariants as fault
+use Rattle.split_queue.specs.declared.error.RingErr.{RingErr}
+use Rattle.split_queue.specs.declared.error.RingErr.TheVariants as fault
 
 -- the answer by the fault of its buffer, that of its next field, and whether one follows
 abbrev pub answer_of : Option RingErr → Option RingErr → Bool → ℕ → Result (Option ℕ) RingErr

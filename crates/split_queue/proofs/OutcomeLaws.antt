@@ -12,8 +12,8 @@ use Rattle.split_queue.proofs.FaultLaws.{count_fault-last, count_fault-few, coun
 use Rattle.split_queue.proofs.WalkLaws.{head_walk, push_walk, longest_walk}
 use Rattle.split_queue.specs.declared.queue_place.Place.{Place}
 use Rattle.split_queue.specs.declared.chain.Chain.{Chain}
-use Rattle.split_queue.specs.declared.ring_err.RingErr.{RingErr}
-use Rattle.split_queue.specs.declared.ring_err.RingErr.TheVariants as fault
+use Rattle.split_queue.specs.declared.error.RingErr.{RingErr}
+use Rattle.split_queue.specs.declared.error.RingErr.TheVariants as fault
 
 -- what is known where the walk comes to a descriptor: no one before it has a fault
 record IsSoFar (mem : List ℕ) (place : Place) (head : ℕ) (front : List ℕ) (number : ℕ) : Type 0 where

@@ -13,8 +13,8 @@ use Rattle.split_queue.proofs.BufferLaws.{buffer_pieces}
 use Rattle.split_queue.specs.declared.queue_place.Place.{Place}
 use Rattle.split_queue.specs.declared.descriptor.Descriptor.{Descriptor}
 use Rattle.split_queue.specs.declared.chain.Chain.{Chain}
-use Rattle.split_queue.specs.declared.ring_err.RingErr.{RingErr}
-use Rattle.split_queue.specs.declared.ring_err.RingErr.TheVariants as fault
+use Rattle.split_queue.specs.declared.error.RingErr.{RingErr}
+use Rattle.split_queue.specs.declared.error.RingErr.TheVariants as fault
 
 answer_of-buffer : (b f : Option RingErr) (more : Bool) (next : ℕ) (r : Option ℕ) → answer_of b f more next ≡ Ok r → b ≡ None
 answer_of-buffer (Some _) f more next r e = absurd (cc)

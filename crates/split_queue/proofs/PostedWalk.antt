@@ -21,7 +21,7 @@ use Rattle.split_queue.specs.declared.queue_place.Place.{Place}
 use Rattle.split_queue.specs.declared.descriptor.Descriptor.{Descriptor}
 use Rattle.split_queue.specs.declared.chain.Chain.{Chain}
 use Rattle.split_queue.specs.declared.chain.Piece.{Piece}
-use Rattle.split_queue.specs.declared.ring_err.RingErr.TheVariants as fault
+use Rattle.split_queue.specs.declared.error.RingErr.TheVariants as fault
 
 -- ---- what a piece's descriptor says
 

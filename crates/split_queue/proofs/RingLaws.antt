@@ -16,7 +16,7 @@ use Rattle.split_queue.specs.Rings.{available_idx, index_after, index_gap, with_
 use Rattle.split_queue.specs.Setup.{IsInArea, table_area, available_area, used_area}
 use Rattle.split_queue.specs.declared.queue_place.Place.{Place}
 use Rattle.split_queue.specs.declared.chain.Piece.{Piece}
-use Rattle.split_queue.specs.declared.driver_err.PostErr.TheVariants.{Full}
+use Rattle.split_queue.specs.declared.error.PostErr.TheVariants.{Full}
 use Rattle.split_queue.proofs.ChainNumbers.{AreFree-chain_numbers, AreFree-below}
 use Rattle.split_queue.proofs.PoolLaws.{in_range}
 use Rattle.split_queue.proofs.ReadLaws.{le32_at-outside, le16_at-with_le16, le32_at-with_le32, with_le16-changes, with_le32-changes, with_descriptor-changes}

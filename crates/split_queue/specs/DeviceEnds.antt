@@ -4,8 +4,8 @@ use Rattle.split_queue.specs.Rings.{index_after, index_gap, available_idx, avail
 use Rattle.split_queue.specs.Walks.{chain_of}
 use Rattle.split_queue.specs.declared.chain.Chain.{Chain}
 use Rattle.split_queue.specs.declared.queue_place.Place.{Place}
-use Rattle.split_queue.specs.declared.ring_err.RingErr.{RingErr}
-use Rattle.split_queue.specs.declared.ring_err.RingErr.TheVariants as fault
+use Rattle.split_queue.specs.declared.error.RingErr.{RingErr}
+use Rattle.split_queue.specs.declared.error.RingErr.TheVariants as fault
 
 -- a device's end: its place in a memory of so many bytes, the available index of its next chain, and the used index at
 -- which it goes on

@@ -10,10 +10,10 @@ use Rattle.split_queue.specs.Rings.{index_after, index_gap, with_available_entry
 use Rattle.split_queue.specs.Setup.{IsPlaced}
 use Rattle.split_queue.specs.declared.chain.Piece.{Piece}
 use Rattle.split_queue.specs.declared.descriptor.Descriptor.{Descriptor}
-use Rattle.split_queue.specs.declared.driver_err.PostErr.{PostErr}
-use Rattle.split_queue.specs.declared.driver_err.PostErr.TheVariants.{Full}
-use Rattle.split_queue.specs.declared.driver_err.TakeErr.{TakeErr}
-use Rattle.split_queue.specs.declared.driver_err.TakeErr.TheVariants.{IdxJump, BadId}
+use Rattle.split_queue.specs.declared.error.PostErr.{PostErr}
+use Rattle.split_queue.specs.declared.error.PostErr.TheVariants.{Full}
+use Rattle.split_queue.specs.declared.error.TakeErr.{TakeErr}
+use Rattle.split_queue.specs.declared.error.TakeErr.TheVariants.{IdxJump, BadId}
 use Rattle.split_queue.specs.declared.queue_place.Place.{Place}
 
 -- a driver's end: its place in a memory of so many bytes, the available index of its next chain, the used index at

@@ -4,8 +4,8 @@ use Rattle.std.specs.Prelude.{◌≡◌, ◌≢◌, ℕ, ◌+◌, ◌-◌, ◌<�
 use Rattle.split_queue.specs.Rings.{index_gap, available_idx, available_head}
 use Rattle.split_queue.specs.Walks.{IsWalk, fault_in_walk}
 use Rattle.split_queue.specs.declared.queue_place.Place.{Place}
-use Rattle.split_queue.specs.declared.ring_err.RingErr.{RingErr}
-use Rattle.split_queue.specs.declared.ring_err.RingErr.TheVariants as fault
+use Rattle.split_queue.specs.declared.error.RingErr.{RingErr}
+use Rattle.split_queue.specs.declared.error.RingErr.TheVariants as fault
 
 -- a walk from the head whose last descriptor has the fault, and no one before it has any
 pub record IsWalkFault (mem : List ℕ) (place : Place) (head : ℕ) (f : RingErr) (walk : List ℕ) : Type 0 where

@@ -6,8 +6,8 @@ use Rattle.guest_mem.specs.Memory.{IsInRange}
 use Rattle.split_queue.specs.QueuePlaces.{table_bytes, available_bytes, used_bytes}
 use Rattle.split_queue.specs.declared.queue_place.Place.{Place}
 use Rattle.split_queue.specs.declared.setup.Area.{Area}
-use Rattle.split_queue.specs.declared.setup.SetupErr.{SetupErr}
-use Rattle.split_queue.specs.declared.setup.SetupErr.TheVariants as setup
+use Rattle.split_queue.specs.declared.error.SetupErr.{SetupErr}
+use Rattle.split_queue.specs.declared.error.SetupErr.TheVariants as setup
 
 -- the descriptor table, the available ring and the used ring
 abbrev pub table_area : Place → Area

@@ -10,10 +10,10 @@ ghost use Rattle.split_queue.specs.Setup.{setup_fault, IsPlaced};
 ghost use Rattle.split_queue.specs.Walks.{bare_chain, HasWalk};
 
 use crate::chain::Chain;
+use crate::error::{RingErr, SetupErr};
 use crate::queue_place::Place;
 use crate::ring::{available_head, available_idx, put_used};
-use crate::ring_err::RingErr;
-use crate::setup::{SetupErr, setup_fault};
+use crate::setup::setup_fault;
 use crate::walk::fill_chain;
 use guest_mem::GuestMem;
 use std::marker::Model;

@@ -7,11 +7,11 @@ ghost use Rattle.split_queue.specs.DriverEnds.{IsInFreeDescriptor, IsInPost, cha
 ghost use Rattle.split_queue.specs.Pools.{owner_of, out_count, first_free};
 ghost use Rattle.split_queue.specs.Rings.{ClearsRings};
 ghost use Rattle.split_queue.specs.Setup.{setup_fault, IsPlaced};
-ghost use Rattle.split_queue.specs.declared.setup.SetupErr.{SetupErr};
+ghost use Rattle.split_queue.specs.declared.error.SetupErr.{SetupErr};
 
 use crate::chain::Piece;
 use crate::descriptor::{Descriptor, NEXT, WRITE};
-use crate::driver_err::{DriverErr, PostErr, TakeErr};
+use crate::error::{DriverErr, PostErr, TakeErr};
 use crate::number::le32_at;
 use crate::pool::Pool;
 use crate::queue_place::Place;

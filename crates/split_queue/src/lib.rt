@@ -17,10 +17,10 @@
 //! ([`rounds_keep_agreement`]). Where the device writes a reply into the chain's writable pieces, command and reply lie
 //! in the queue afterwards, in just the pieces that were posted ([`rounds_leave_the_answer`]).
 //!
-//! The modules, lowest first: `queue_place` (where a queue lies), `setup` (whether it may lie there), `number`
-//! (in memory), `descriptor`, `ring`, `chain` (what a device gets), `ring_err`, `walk` (from a head to its chain),
-//! `device_end`; `pool` (which descriptors are free), `driver_err`, `driver_end`; `agreement` (laws of both ends
-//! together). The definitions stand in specs/, those of a module under its name: `QueuePlaces`, `Setup`, `Descriptors`,
+//! The modules, lowest first: `error` (what both ends refuse), `queue_place` (where a queue lies), `setup` (whether it
+//! may lie there), `number` (in memory), `descriptor`, `ring`, `chain` (what a device gets), `walk` (from a head to its
+//! chain), `device_end`; `pool` (which descriptors are free), `driver_end`; `agreement` (laws of both ends together).
+//! The definitions stand in specs/, those of a module under its name: `QueuePlaces`, `Setup`, `Descriptors`,
 //! `Rings`, `Chains`, `RingErrs` (what each fault says), `Walks` (what a walk is, in its own words, and the chain of a
 //! head), `DeviceEnds`, `Pools`, `DriverEnds`, `Agreement`.
 #![tactic(auto)]
@@ -30,12 +30,11 @@ mod chain;
 mod descriptor;
 mod device_end;
 mod driver_end;
-mod driver_err;
+mod error;
 mod number;
 mod pool;
 mod queue_place;
 mod ring;
-mod ring_err;
 mod setup;
 mod walk;
 
@@ -46,7 +45,5 @@ pub use agreement::{
 pub use chain::{Chain, MOST_DESCRIPTORS, MOST_READABLE, Piece};
 pub use device_end::DeviceEnd;
 pub use driver_end::DriverEnd;
-pub use driver_err::{DriverErr, PostErr, TakeErr};
+pub use error::{DriverErr, PostErr, RingErr, SetupErr, TakeErr};
 pub use queue_place::Place;
-pub use ring_err::RingErr;
-pub use setup::SetupErr;

@@ -3,6 +3,7 @@ ghost use Rattle.std.specs.Prelude.{◌≡◌, ◌+◌, ◌^◌, ◌<◌, IfNone
 ghost use Rattle.split_queue.specs.QueuePlaces.{table_bytes, available_bytes, used_bytes};
 ghost use Rattle.split_queue.specs.Setup.{table_area, available_area, used_area, lies_in, meets, is_aligned, all_lie_in, some_meet, setup_fault, IsPlaced};
 
+use crate::error::SetupErr;
 use crate::queue_place::{
     AVAILABLE_SLOT_BYTES, DESCRIPTOR_BYTES, Place, RING_EVENT_BYTES, RING_HEAD_BYTES,
     USED_ELEMENT_BYTES,
@@ -13,19 +14,6 @@ const TABLE_ALIGN: u64 = 16;
 const AVAILABLE_ALIGN: u64 = 2;
 
 const USED_ALIGN: u64 = 4;
-
-/// Why a queue can't be set up. The first that holds is given.
-#[derive(Clone, Copy, Debug, PartialEq, Eq)]
-pub enum SetupErr {
-    /// The size isn't a power of two from 1 to 32,768.
-    Size,
-    /// The descriptor table isn't at a multiple of 16, the available ring at one of 2, or the used ring at one of 4.
-    Align,
-    /// An area passes the memory's end.
-    Area,
-    /// Two areas share a byte.
-    Overlap,
-}
 
 /// A part of guest memory.
 #[derive(Clone, Copy)]

@@ -7,8 +7,8 @@ ghost use Rattle.split_queue.specs.Walks.{with_buffer, buffer_fault, next_fault,
 
 use crate::chain::{Chain, MOST_DESCRIPTORS, MOST_READABLE, Piece};
 use crate::descriptor::Descriptor;
+use crate::error::RingErr;
 use crate::queue_place::Place;
-use crate::ring_err::RingErr;
 use arrayvec::ArrayVec;
 use guest_mem::GuestMem;
 

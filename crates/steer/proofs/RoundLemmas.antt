@@ -14,7 +14,7 @@ use Rattle.split_queue.specs.DeviceEnds.{DeviceEndState, after_pop, after_push}
 use Rattle.split_queue.specs.DriverEnds.{DriverEndState, IsValidDriver, post_answer, after_post, pool_after_post, take_answer, after_take}
 use Rattle.split_queue.specs.Rings.{index_after, available_idx, used_idx, with_used_entry}
 use Rattle.split_queue.specs.declared.chain.Chain.{Chain}
-use Rattle.split_queue.specs.declared.ring_err.RingErr.{RingErr}
+use Rattle.split_queue.specs.declared.error.RingErr.{RingErr}
 use Rattle.split_queue.proofs.AgreementLaws.{agree-kept, pieces-keep, post-changes, round-takes, round-agrees, round-frees}
 use Rattle.split_queue.proofs.AnswerLaws.{answer-held}
 use Rattle.split_queue.proofs.ReplyLaws.{with_bytes_in-changes}

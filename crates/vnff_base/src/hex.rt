@@ -1,24 +1,21 @@
-//! Bytes that are spelled in hexadecimal, as scripts give frames, masks and commands.
-ghost use Rattle.std.specs.Prelude.{◌≡◌, ◌*◌, ◌+◌, ◌/◌, ◌<◌, ◌≤◌, ◌++◌, length, vec_len, vec_capacity, IfOk, ◌↔◌, IsTrue, List, ℕ, MatchResult};
-ghost use Rattle.std.specs.Char.{digit_value, is_ascii_hexdigit};
-ghost use Rattle.std.specs.List.{list_all};
+//! Bytes in hexadecimal: read from a word, as scripts give frames, masks and commands, and put to an output.
+
+ghost use Rattle.std.specs.Prelude.{◌≡◌, ◌*◌, ◌+◌, ◌/◌, ◌<◌, ◌≤◌, ◌++◌, length, take, vec_len, vec_capacity, IfOk, ◌↔◌, IsTrue, List, ℕ, MatchResult};
+ghost use Rattle.std.specs.Char.{digit_char, digit_value, is_ascii_hexdigit};
+ghost use Rattle.std.specs.List.{flat_map, list_all};
 ghost use Rattle.std.specs.Str.{bytes_eq};
-ghost use Rattle.vnff_base.specs.Hex.{hex_bytes, hex_text, pair_bytes, dash, are_pairs};
 ghost use Rattle.byte_numbers.specs.Bytes.{IsBytes};
+ghost use Rattle.vnff_base.specs.Gatherings.{Gathers};
+ghost use Rattle.vnff_base.specs.Hex.{hex_bytes, hex_pair, hex_text, pair_bytes, dash, are_pairs};
+ghost use Rattle.vnff_base.specs.Outputs.{Writes};
 
+use crate::error::HexErr;
+use crate::gathered::Gathered;
+use crate::out::{Failed, Out};
 use std::alloc::Global;
-use thiserror::Error;
 
-/// Why a word gives no bytes.
-#[derive(Clone, Copy, Debug, PartialEq, Eq, Error)]
-pub enum HexErr {
-    /// The word is neither `-` nor an even number of hexadecimal digits.
-    #[error("the word is no hexadecimal spelling of bytes")]
-    NotHex,
-    /// Memory ran out.
-    #[error("out of memory")]
-    Memory,
-}
+/// How many bytes are spelled for one put.
+const PIECE: usize = 64;
 
 /// The bytes that a word spells: two digits of either case for each byte, the high four bits first,
 /// or `-` for no bytes. This project's own spelling, which `hex_put` writes in lower case.
@@ -88,5 +85,80 @@ fn digit(byte: u8) -> u8
         b'0'..=b'9' => byte - b'0',
         b'A'..=b'F' => byte - b'A' + 10,
         _ => byte - b'a' + 10,
+    }
+}
+
+/// Writes the bytes in hexadecimal: two digits a byte, letters in lower case, and `-` for no bytes.
+pub fn hex_put<O: Out>(out: &mut O, bytes: &[u8]) -> Result<(), Failed>
+    ensures { Writes (O.state out.old) (O.state out.new) (hex_text bytes.now) result }
+{
+    if bytes.is_empty() {
+        return out.put(b"-");
+    }
+    let mut at = 0;
+    while at < bytes.len() {
+        let end = bytes.len().min(at + PIECE);
+        put_piece(out, &bytes[at..end])?;
+        at = end;
+    }
+    Ok(())
+}
+
+/// Writes the digits of a few bytes by one put.
+fn put_piece<O: Out>(out: &mut O, piece: &[u8]) -> Result<(), Failed>
+    requires { length piece.now ≤ PIECE }
+    ensures { Writes (O.state out.old) (O.state out.new) (flat_map hex_pair piece.now) result }
+{
+    let mut digits = [0u8; 2 * PIECE];
+    spell(piece, &mut digits);
+    out.put(&digits[..2 * piece.len()])
+}
+
+/// Writes the bytes in hexadecimal, as `hex_put` does, behind a text that is gathered.
+pub fn hex_gather<O: Out>(text: &mut Gathered, out: &mut O, bytes: &[u8]) -> Result<(), Failed>
+    ensures { Gathers (O.state out.old) (O.state out.new) text.old text.new (hex_text bytes.now) result }
+{
+    if bytes.is_empty() {
+        return text.put(out, b"-");
+    }
+    let mut at = 0;
+    while at < bytes.len() {
+        let end = bytes.len().min(at + PIECE);
+        gather_piece(text, out, &bytes[at..end])?;
+        at = end;
+    }
+    Ok(())
+}
+
+/// Writes the digits of a few bytes as one piece of the text.
+fn gather_piece<O: Out>(text: &mut Gathered, out: &mut O, piece: &[u8]) -> Result<(), Failed>
+    requires { length piece.now ≤ PIECE }
+    ensures { Gathers (O.state out.old) (O.state out.new) text.old text.new (flat_map hex_pair piece.now) result }
+{
+    let mut digits = [0u8; 2 * PIECE];
+    spell(piece, &mut digits);
+    text.put(out, &digits[..2 * piece.len()])
+}
+
+/// Writes the digits of some bytes into the front of a buffer.
+fn spell(bytes: &[u8], digits: &mut [u8])
+    requires { 2 * length bytes.now ≤ length digits.old }
+    ensures { take (2 * length bytes.now) digits.new ≡ flat_map hex_pair bytes.now }
+{
+    for (place, byte) in bytes.iter().enumerate() {
+        digits[2 * place] = hex_digit(*byte / 16);
+        digits[2 * place + 1] = hex_digit(*byte % 16);
+    }
+}
+
+/// The hexadecimal digit of four bits, in lower case.
+pub fn hex_digit(bits: u8) -> u8
+    requires { bits < 16 }
+    ensures { result ≡ digit_char bits }
+{
+    if bits < 10 {
+        b'0' + bits
+    } else {
+        b'a' + (bits - 10)
     }
 }

@@ -18,6 +18,7 @@
 #![tactic(auto)]
 
 pub mod dir_shelf;
+pub mod error;
 pub mod file_out;
 pub mod gathered;
 pub mod hex;
@@ -26,23 +27,22 @@ pub mod mem_out;
 pub mod mem_shelf;
 pub mod number;
 pub mod out;
-pub mod put_hex;
 pub mod shelf;
 pub mod std_out;
 pub mod text;
 pub mod whole_file;
 
 pub use dir_shelf::DirShelf;
+pub use error::{HexErr, ReadErr};
 pub use file_out::FileOut;
 pub use gathered::Gathered;
-pub use hex::{HexErr, hex_read, is_hex};
+pub use hex::{hex_digit, hex_gather, hex_put, hex_read, is_hex};
 pub use list::List;
 pub use mem_out::MemOut;
 pub use mem_shelf::MemShelf;
 pub use number::num_read;
 pub use out::{Failed, Out};
-pub use put_hex::{hex_digit, hex_gather, hex_put};
 pub use shelf::Shelf;
 pub use std_out::StdOut;
 pub use text::{Line, LineReader, first_line, first_word};
-pub use whole_file::{FILE_LIMIT, FILE_PIECE, ReadErr, new_piece, read_all};
+pub use whole_file::{FILE_LIMIT, FILE_PIECE, new_piece, read_all};

@@ -5,29 +5,15 @@ ghost use Rattle.vnff_base.specs.Counts.{count_with};
 ghost use Rattle.vnff_base.specs.Reads.{OfFile};
 ghost use Rattle.vnff_base.specs.Shelves.{HasCause, file_limit};
 
+use crate::error::ReadErr;
 use crate::shelf::Shelf;
 use std::alloc::{AllocError, Global};
-use thiserror::Error;
 
 /// The most bytes of a file that are read: 64 MiB.
 pub const FILE_LIMIT: u64 = 67_108_864;
 
 /// How many bytes are asked of the shelf at once.
 pub const FILE_PIECE: usize = 65_536;
-
-/// Why a file wasn't read.
-#[derive(Clone, Copy, Debug, PartialEq, Eq, Error)]
-pub enum ReadErr {
-    /// The shelf failed, or the file isn't there.
-    #[error("the file can't be read")]
-    ReadFault,
-    /// The file has more bytes than the limit.
-    #[error("the file is too long")]
-    TooLong,
-    /// Memory ran out.
-    #[error("out of memory")]
-    Memory,
-}
 
 /// Reads the file of that name from its first byte to its end, at most `limit` bytes of it. The limit is
 /// [`FILE_LIMIT`] at most.

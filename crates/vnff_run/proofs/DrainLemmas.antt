@@ -14,8 +14,8 @@ use Rattle.split_queue.specs.Setup.{setup_fault}
 use Rattle.split_queue.specs.Walks.{chain_of}
 use Rattle.split_queue.specs.declared.chain.Chain.{Chain}
 use Rattle.split_queue.specs.declared.queue_place.Place.{Place}
-use Rattle.split_queue.specs.declared.ring_err.RingErr.{RingErr}
-use Rattle.split_queue.specs.declared.ring_err.RingErr.TheVariants as faults
+use Rattle.split_queue.specs.declared.error.RingErr.{RingErr}
+use Rattle.split_queue.specs.declared.error.RingErr.TheVariants as faults
 use Rattle.vnff_run.specs.Drain.{IsDrainable, chain_at, chain_line, chain_lines, drain_last, drained_chains, last_of, memory_behind, with_chain_back}
 use Rattle.vnff_run.specs.declared.drain.Last.TheVariants.{Empty, Faulty}
 use Rattle.vnff_run.proofs.QueuePlaced.{HasRings, has_rings, back-idx, back-size}

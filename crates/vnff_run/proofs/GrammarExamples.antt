@@ -11,8 +11,8 @@ use Rattle.vnff_run.specs.Grammar.{after_version, device_in, first_selectors, it
 use Rattle.vnff_run.specs.ItemLines.{admin_of, frame_item, item_of}
 use Rattle.vnff_run.specs.SelectLines.{is_select, kind_named, flags_named, selector_in_line}
 use Rattle.vnff_run.specs.Words.{number_within, bytes_within}
-use Rattle.vnff_run.specs.declared.script.Reason.{Reason}
-use Rattle.vnff_run.specs.declared.script.Reason.TheVariants.{Version, Device, Number, Select, Hex, Room, Word, Start}
+use Rattle.vnff_run.specs.declared.error.Reason.{Reason}
+use Rattle.vnff_run.specs.declared.error.Reason.TheVariants.{Version, Device, Number, Select, Hex, Room, Word, Start}
 
 abbrev IsRefused : String → ℕ → Reason → Type 0
 IsRefused text line reason = script_of (codes text) ≡ Err (line, reason)

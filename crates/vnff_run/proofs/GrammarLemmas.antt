@@ -12,9 +12,9 @@ use Rattle.vnff_run.specs.Results.{◌>>=◌}
 use Rattle.vnff_run.specs.Grammar.{at_line, items_of}
 use Rattle.vnff_run.specs.ItemLines.{item_of}
 use Rattle.vnff_run.specs.declared.script.Item.{Item}
-use Rattle.vnff_run.specs.declared.script.Reason.{Reason}
-use Rattle.vnff_run.specs.declared.script.ScriptFault.{ScriptFault}
-use Rattle.vnff_run.specs.declared.script.ScriptFault.TheVariants as faults
+use Rattle.vnff_run.specs.declared.error.Reason.{Reason}
+use Rattle.vnff_run.specs.declared.error.ScriptFault.{ScriptFault}
+use Rattle.vnff_run.specs.declared.error.ScriptFault.TheVariants as faults
 
 abbrev IsSmall : NumberedLine → Type 0
 IsSmall line = line.number < 2 ^ 32

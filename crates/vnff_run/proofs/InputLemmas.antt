@@ -5,7 +5,7 @@ use Rattle.std.proofs.lemmas.Option.{IfSome_then}
 use Rattle.split_queue.specs.DeviceEnds.{device_start}
 use Rattle.split_queue.specs.Setup.{setup_fault}
 use Rattle.split_queue.specs.declared.queue_place.Place.{Place}
-use Rattle.split_queue.specs.declared.setup.SetupErr.{SetupErr}
+use Rattle.split_queue.specs.declared.error.SetupErr.{SetupErr}
 use Rattle.vnff_base.specs.Shelves.{Files, ShelfState}
 use Rattle.vnff_run.specs.Endings.{ReadStops, ReadsInput, script_stop}
 use Rattle.vnff_run.specs.Inputs.{InputFault, file_bytes, queue_in, queue_or_refusal, script_in, script_or_refusal}
@@ -13,8 +13,8 @@ use Rattle.vnff_run.specs.Readings.{IsScriptFault}
 use Rattle.vnff_run.specs.Results.{◌>>=◌}
 use Rattle.vnff_run.specs.Grammar.{script_of}
 use Rattle.vnff_run.specs.declared.script.Script.{Script}
-use Rattle.vnff_run.specs.declared.script.ScriptFault.{ScriptFault}
-use Rattle.vnff_run.specs.declared.script.ScriptFault.TheVariants as faults
+use Rattle.vnff_run.specs.declared.error.ScriptFault.{ScriptFault}
+use Rattle.vnff_run.specs.declared.error.ScriptFault.TheVariants as faults
 use Rattle.vnff_run.specs.declared.stop.FileKind.TheVariants as kinds
 use Rattle.vnff_run.specs.declared.stop.RefusedInput.TheVariants.{BadImage}
 use Rattle.vnff_run.specs.declared.stop.Stop.{Stop}

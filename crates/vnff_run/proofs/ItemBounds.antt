@@ -26,10 +26,10 @@ use Rattle.vnff_run.specs.Words.{bytes_within, if_within, number_within}
 use Rattle.vnff_run.specs.declared.script.DeviceLine.{DeviceLine}
 use Rattle.vnff_run.specs.declared.script.Item.{Item}
 use Rattle.vnff_run.specs.declared.script.Item.TheVariants.{Admin, Frame}
-use Rattle.vnff_run.specs.declared.script.Reason.{Reason}
-use Rattle.vnff_run.specs.declared.script.Reason.TheVariants.{Hex, Room, Version, Word}
+use Rattle.vnff_run.specs.declared.error.Reason.{Reason}
+use Rattle.vnff_run.specs.declared.error.Reason.TheVariants.{Hex, Room, Version, Word}
 use Rattle.vnff_run.specs.declared.script.Script.{Script}
-use Rattle.vnff_run.specs.declared.script.ScriptFault.{ScriptFault}
+use Rattle.vnff_run.specs.declared.error.ScriptFault.{ScriptFault}
 
 -- what steps give that are all done
 both_done : {A B E : Type 0} (first : Result A E) (next : A → Result B E) (value : B) → (first >>= next) ≡ Ok value → (part : A) × (first ≡ Ok part) × (next part ≡ Ok value)

@@ -25,8 +25,8 @@ use Rattle.vnff_run.specs.Spellable.{IsCommand, IsFrame, IsItem, IsNamed, IsSpel
 use Rattle.steer.specs.declared.admin_line.AdminLine.{AdminLine}
 use Rattle.vnff_run.specs.declared.script.Item.{Item}
 use Rattle.vnff_run.specs.declared.script.Item.TheVariants.{Admin, Frame}
-use Rattle.vnff_run.specs.declared.script.Reason.{Reason}
-use Rattle.vnff_run.specs.declared.script.Reason.TheVariants as reasons
+use Rattle.vnff_run.specs.declared.error.Reason.{Reason}
+use Rattle.vnff_run.specs.declared.error.Reason.TheVariants as reasons
 use Rattle.vnff_run.specs.declared.script.Script.{Script}
 use Rattle.vnff_run.proofs.SpelledLines.{lines-spelled}
 use Rattle.vnff_run.proofs.TextLines.{numbered_words, lines-read}

@@ -18,9 +18,9 @@ use Rattle.vnff_run.specs.Grammar.{at_line, first_selectors}
 use Rattle.vnff_run.specs.Readings.{IsScriptFault}
 use Rattle.vnff_run.specs.Results.{◌>>=◌}
 use Rattle.vnff_run.specs.SelectLines.{is_select, selector_in_line}
-use Rattle.vnff_run.specs.declared.script.Reason.{Reason}
-use Rattle.vnff_run.specs.declared.script.ScriptFault.{ScriptFault}
-use Rattle.vnff_run.specs.declared.script.ScriptFault.TheVariants as faults
+use Rattle.vnff_run.specs.declared.error.Reason.{Reason}
+use Rattle.vnff_run.specs.declared.error.ScriptFault.{ScriptFault}
+use Rattle.vnff_run.specs.declared.error.ScriptFault.TheVariants as faults
 
 -- selectors whose types rise, up to `last`
 pub record RiseTo (last : ℕ) (selectors : List SelectorParts) : Type 0 where

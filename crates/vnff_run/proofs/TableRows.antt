@@ -22,7 +22,7 @@ use Rattle.vnff_run.specs.ScriptTexts.{device_words, item_words, selector_lines}
 use Rattle.vnff_run.specs.TableInputs.{caps_in, compiled_in, table_run_in}
 use Rattle.vnff_run.specs.TableRefusals.{capture_words, limit_words, unsupported_words}
 use Rattle.vnff_run.specs.Tables.{packet_line, table_text}
-use Rattle.vnff_run.specs.declared.script.Reason.TheVariants as reasons
+use Rattle.vnff_run.specs.declared.error.Reason.TheVariants as reasons
 use Rattle.vnff_run.specs.declared.stop.RefusedInput.TheVariants.{BadDevice, BadTable, BadCapture, Unsupported, PastLimit}
 use Rattle.vnff_run.specs.declared.table_refusal.TableLimit.TheVariants.{PerGroup}
 use Rattle.vnff_run.specs.declared.table_refusal.TableReason.TheVariants as table_reasons

@@ -12,7 +12,7 @@ use Rattle.vnff_base.proofs.NumberLemmas.{number_of-decimal}
 use Rattle.vnff_run.specs.DeviceLines.{start_of, start_word}
 use Rattle.vnff_run.specs.SelectLines.{flags_named, kind_named, kind_word, mode_word}
 use Rattle.vnff_run.specs.Words.{bytes_within, if_within, number_within}
-use Rattle.vnff_run.specs.declared.script.Reason.{Reason}
+use Rattle.vnff_run.specs.declared.error.Reason.{Reason}
 use Rattle.cap_table.specs.declared.start.Start.{Start}
 use Rattle.cap_table.specs.declared.start.Start.TheVariants.{Ready, Reset}
 

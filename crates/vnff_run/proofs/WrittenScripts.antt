@@ -7,8 +7,8 @@ use Rattle.vnff_run.specs.Readings.{IsScriptFault}
 use Rattle.vnff_run.specs.ScriptTexts.{script_text}
 use Rattle.vnff_run.specs.Spellable.{IsSpellable}
 use Rattle.vnff_run.specs.declared.script.Script.{Script}
-use Rattle.vnff_run.specs.declared.script.ScriptFault.{ScriptFault}
-use Rattle.vnff_run.specs.declared.script.ScriptFault.TheVariants as faults
+use Rattle.vnff_run.specs.declared.error.ScriptFault.{ScriptFault}
+use Rattle.vnff_run.specs.declared.error.ScriptFault.TheVariants as faults
 use Rattle.vnff_run.proofs.ScriptReadBack.{script-read}
 
 read_back : (text : List ℕ) (result : Result Script ScriptFault) → MatchResult result (λ script. script_of text ≡ Ok script) (IsScriptFault (script_of text)) → (script : Script) → IsSpellable script → text ≡ script_text script → MatchResult result (λ read. read ≡ script) (λ fault. fault ≡ faults.Memory)

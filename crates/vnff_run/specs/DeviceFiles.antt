@@ -6,8 +6,8 @@ use Rattle.cap_table.specs.declared.start.Start.TheVariants.{Ready, Reset}
 use Rattle.vnff_run.specs.Grammar.{after_version, at_line, device_in, first_selectors, caps_with_selectors}
 use Rattle.vnff_run.specs.Results.{◌>>=◌}
 use Rattle.vnff_run.specs.declared.script.Item.{Item}
-use Rattle.vnff_run.specs.declared.script.Reason.{Reason}
-use Rattle.vnff_run.specs.declared.script.Reason.TheVariants as reasons
+use Rattle.vnff_run.specs.declared.error.Reason.{Reason}
+use Rattle.vnff_run.specs.declared.error.Reason.TheVariants as reasons
 use Rattle.vnff_run.specs.declared.script.Script.{Script}
 
 -- the number of the first of some lines, or of a missing one

@@ -7,8 +7,8 @@ use Rattle.cap_table.specs.declared.start.Start.TheVariants.{Ready, Reset}
 use Rattle.vnff_run.specs.Results.{◌>>=◌}
 use Rattle.vnff_run.specs.Words.{number_within}
 use Rattle.vnff_run.specs.declared.script.DeviceLine.{DeviceLine}
-use Rattle.vnff_run.specs.declared.script.Reason.{Reason}
-use Rattle.vnff_run.specs.declared.script.Reason.TheVariants.{Device, Number}
+use Rattle.vnff_run.specs.declared.error.Reason.{Reason}
+use Rattle.vnff_run.specs.declared.error.Reason.TheVariants.{Device, Number}
 
 -- `vnff 1`
 unfoldable pub is_version : List (List ℕ) → Bool

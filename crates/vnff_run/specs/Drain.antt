@@ -10,10 +10,10 @@ use Rattle.split_queue.specs.Rings.{available_idx, available_head, with_used_ent
 use Rattle.split_queue.specs.Setup.{setup_fault}
 use Rattle.split_queue.specs.declared.chain.Chain.{Chain}
 use Rattle.split_queue.specs.declared.queue_place.Place.{Place}
-use Rattle.split_queue.specs.declared.ring_err.RingErr.{RingErr}
-use Rattle.split_queue.specs.declared.ring_err.RingErr.TheVariants as faults
-use Rattle.split_queue.specs.declared.setup.SetupErr.{SetupErr}
-use Rattle.split_queue.specs.declared.setup.SetupErr.TheVariants as setup
+use Rattle.split_queue.specs.declared.error.RingErr.{RingErr}
+use Rattle.split_queue.specs.declared.error.RingErr.TheVariants as faults
+use Rattle.split_queue.specs.declared.error.SetupErr.{SetupErr}
+use Rattle.split_queue.specs.declared.error.SetupErr.TheVariants as setup
 use Rattle.ntuple_text.specs.SpecTexts.{line_feed}
 use Rattle.vnff_run.specs.declared.drain.Last.{Last}
 use Rattle.vnff_run.specs.declared.drain.Last.TheVariants.{Empty, Faulty}

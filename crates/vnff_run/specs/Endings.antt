@@ -6,8 +6,8 @@ use Rattle.vnff_base.specs.Outputs.{OutputState, told_after, Wrote, Stopped}
 use Rattle.vnff_base.specs.Shelves.{Files, ShelfState}
 use Rattle.vnff_run.specs.Inputs.{InputFault, Missing, Refused}
 use Rattle.vnff_run.specs.Outcomes.{Outcome, done_status, refused_status, read_status, write_status, memory_status, fault_outcome, refusal_line}
-use Rattle.vnff_run.specs.declared.script.ScriptFault.{ScriptFault}
-use Rattle.vnff_run.specs.declared.script.ScriptFault.TheVariants as faults
+use Rattle.vnff_run.specs.declared.error.ScriptFault.{ScriptFault}
+use Rattle.vnff_run.specs.declared.error.ScriptFault.TheVariants as faults
 use Rattle.vnff_run.specs.declared.stop.RefusedInput.{RefusedInput}
 use Rattle.vnff_run.specs.declared.stop.RefusedInput.TheVariants.{BadScript}
 use Rattle.vnff_run.specs.declared.stop.Stop.{Stop}

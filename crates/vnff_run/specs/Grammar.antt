@@ -13,8 +13,8 @@ use Rattle.vnff_run.specs.Results.{◌>>=◌}
 use Rattle.vnff_run.specs.SelectLines.{is_select, selector_in_line}
 use Rattle.vnff_run.specs.declared.script.DeviceLine.{DeviceLine}
 use Rattle.vnff_run.specs.declared.script.Item.{Item}
-use Rattle.vnff_run.specs.declared.script.Reason.{Reason}
-use Rattle.vnff_run.specs.declared.script.Reason.TheVariants.{Version, Device}
+use Rattle.vnff_run.specs.declared.error.Reason.{Reason}
+use Rattle.vnff_run.specs.declared.error.Reason.TheVariants.{Version, Device}
 use Rattle.vnff_run.specs.declared.script.Script.{Script}
 
 -- what a line gives, or its fault with its number

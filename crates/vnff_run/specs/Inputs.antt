@@ -7,7 +7,7 @@ use Rattle.split_queue.specs.declared.queue_place.Place.{Place}
 use Rattle.vnff_run.specs.Results.{◌>>=◌}
 use Rattle.vnff_run.specs.Grammar.{script_of}
 use Rattle.vnff_run.specs.declared.script.Script.{Script}
-use Rattle.vnff_run.specs.declared.script.Reason.{Reason}
+use Rattle.vnff_run.specs.declared.error.Reason.{Reason}
 use Rattle.vnff_run.specs.declared.stop.FileKind.{FileKind}
 use Rattle.vnff_run.specs.declared.stop.FileKind.TheVariants as kinds
 use Rattle.vnff_run.specs.declared.stop.RefusedInput.{RefusedInput}

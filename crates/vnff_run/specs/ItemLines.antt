@@ -8,8 +8,8 @@ use Rattle.vnff_run.specs.Words.{bytes_within, number_within}
 use Rattle.steer.specs.declared.admin_line.AdminLine.{AdminLine}
 use Rattle.vnff_run.specs.declared.script.Item.{Item}
 use Rattle.vnff_run.specs.declared.script.Item.TheVariants.{Admin, Frame}
-use Rattle.vnff_run.specs.declared.script.Reason.{Reason}
-use Rattle.vnff_run.specs.declared.script.Reason.TheVariants.{Hex, Room, Word}
+use Rattle.vnff_run.specs.declared.error.Reason.{Reason}
+use Rattle.vnff_run.specs.declared.error.Reason.TheVariants.{Hex, Room, Word}
 
 -- `admin HEX ROOM`, by the words behind `admin`: a command, which has bytes, and the room for its reply
 unfoldable pub admin_of : List (List ℕ) → Result Item Reason

@@ -16,8 +16,8 @@ use Rattle.vnff_run.specs.Loads.{gen_text}
 use Rattle.vnff_run.specs.TableInputs.{compiled_in, table_run_in}
 use Rattle.vnff_run.specs.TableRefusals.{capture_words, limit_words, table_reason_word, unsupported_words}
 use Rattle.vnff_run.specs.Tables.{table_text}
-use Rattle.vnff_run.specs.declared.script.Reason.{Reason}
-use Rattle.vnff_run.specs.declared.script.Reason.TheVariants as reasons
+use Rattle.vnff_run.specs.declared.error.Reason.{Reason}
+use Rattle.vnff_run.specs.declared.error.Reason.TheVariants as reasons
 use Rattle.vnff_run.specs.declared.stop.FileKind.{FileKind}
 use Rattle.vnff_run.specs.declared.stop.FileKind.TheVariants as kinds
 use Rattle.vnff_run.specs.declared.stop.RefusedInput.{RefusedInput}

@@ -18,8 +18,8 @@ use Rattle.vnff_run.specs.Inputs.{InputFault, Missing, Refused}
 use Rattle.vnff_run.specs.ScriptTexts.{line_text, select_words}
 use Rattle.vnff_run.specs.TableInputs.{compile_refusal, table_fault}
 use Rattle.vnff_run.specs.declared.compiled.CompiledTable.{CompiledTable}
-use Rattle.vnff_run.specs.declared.script.ScriptFault.{ScriptFault}
-use Rattle.vnff_run.specs.declared.script.ScriptFault.TheVariants as faults
+use Rattle.vnff_run.specs.declared.error.ScriptFault.{ScriptFault}
+use Rattle.vnff_run.specs.declared.error.ScriptFault.TheVariants as faults
 use Rattle.vnff_run.specs.declared.stop.FileKind.TheVariants as kinds
 use Rattle.vnff_run.specs.declared.stop.RefusedInput.TheVariants.{BadCapture, BadDevice, TooLong}
 use Rattle.vnff_run.specs.declared.stop.Stop.{Stop}

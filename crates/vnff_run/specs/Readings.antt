@@ -2,11 +2,11 @@
 use Rattle.std.specs.Prelude.{ℕ, ◌≡◌, ◌<◌, ◌^◌, All, List, [], ◌∷◌, Option, Some, None, Result, Err, ⊤}
 use Rattle.vnff_base.specs.Lines.{NumberedLine, UnreadLines, words_of}
 use Rattle.vnff_base.specs.declared.text.Line.{Line}
-use Rattle.vnff_run.specs.declared.script.LineFault.{LineFault}
-use Rattle.vnff_run.specs.declared.script.LineFault.TheVariants as line_faults
-use Rattle.vnff_run.specs.declared.script.Reason.{Reason}
-use Rattle.vnff_run.specs.declared.script.ScriptFault.{ScriptFault}
-use Rattle.vnff_run.specs.declared.script.ScriptFault.TheVariants as faults
+use Rattle.vnff_run.specs.declared.error.LineFault.{LineFault}
+use Rattle.vnff_run.specs.declared.error.LineFault.TheVariants as line_faults
+use Rattle.vnff_run.specs.declared.error.Reason.{Reason}
+use Rattle.vnff_run.specs.declared.error.ScriptFault.{ScriptFault}
+use Rattle.vnff_run.specs.declared.error.ScriptFault.TheVariants as faults
 
 -- The fault is the first one of these lines, unless memory ran out.
 abbrev pub IsScriptFault : {A : Type 0} → Result A (ℕ × Reason) → ScriptFault → Type 0

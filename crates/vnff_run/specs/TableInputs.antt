@@ -19,7 +19,7 @@ use Rattle.vnff_run.specs.DeviceFiles.{device_file_of}
 use Rattle.vnff_run.specs.Inputs.{InputFault, Missing, Refused, file_bytes}
 use Rattle.vnff_run.specs.Results.{◌>>=◌}
 use Rattle.vnff_run.specs.declared.compiled.CompiledTable.{CompiledTable}
-use Rattle.vnff_run.specs.declared.script.Reason.{Reason}
+use Rattle.vnff_run.specs.declared.error.Reason.{Reason}
 use Rattle.vnff_run.specs.declared.script.Script.{Script}
 use Rattle.vnff_run.specs.declared.stop.FileKind.TheVariants as kinds
 use Rattle.vnff_run.specs.declared.stop.RefusedInput.TheVariants.{BadDevice, BadTable, BadCapture, Unsupported, PastLimit}

@@ -3,7 +3,7 @@ use Rattle.std.specs.Prelude.{ℕ, ◌&&◌, if◌then◌else◌, nat_le, List, 
 use Rattle.std.specs.Option.{ok_or}
 use Rattle.vnff_base.specs.Hex.{hex_bytes}
 use Rattle.vnff_base.specs.Numbers.{number_of}
-use Rattle.vnff_run.specs.declared.script.Reason.{Reason}
+use Rattle.vnff_run.specs.declared.error.Reason.{Reason}
 
 -- the number that a word spells, so large at least and at most
 unfoldable pub number_within : Reason → ℕ → ℕ → List ℕ → Result ℕ Reason

@@ -12,9 +12,10 @@ ghost use Rattle.vnff_run.specs.TableInputs.{caps_in, caps_or_refusal, compiled_
 ghost use Rattle.vnff_run.specs.TableInputs.{table_in, table_or_refusal, table_run_in};
 ghost use Rattle.vnff_run.specs.Programs.{IsProgrammable, compile_stop, device_stop, table_stop};
 
+use crate::error::ScriptFault;
 use crate::file::{file_bytes, frames_in};
 use crate::grammar::read_device_file;
-use crate::script::{Script, ScriptFault};
+use crate::script::Script;
 use crate::stop::{FileKind, RefusedInput, Stop};
 use crate::table_refusal::{TableLimit, TableReason};
 use admin_wire::Command;

@@ -4,9 +4,10 @@ ghost use Rattle.std.specs.Prelude.{◌≡◌, ◌≤◌, ◌∷◌, [], length,
 ghost use Rattle.vnff_base.specs.Lines.{words_of};
 ghost use Rattle.vnff_run.specs.DeviceLines.{caps_of, device_of, is_version, start_of};
 ghost use Rattle.vnff_run.specs.Words.{number_within};
-ghost use Rattle.vnff_run.specs.declared.script.Reason.TheVariants.{Number};
+ghost use Rattle.vnff_run.specs.declared.error.Reason.TheVariants.{Number};
 
-use crate::script::{DeviceLine, Reason};
+use crate::error::Reason;
+use crate::script::DeviceLine;
 use crate::word::{number_within, two_words};
 use admin_dev::Start;
 use cap_table::{DeviceCaps, GREATEST_LIMITS, MOST_PAIRS};

@@ -6,7 +6,7 @@ ghost use Rattle.vnff_run.specs.Drain.{setup_word};
 ghost use Rattle.vnff_run.specs.Endings.{IsStatusOf, WritesRefusal};
 ghost use Rattle.vnff_run.specs.Outcomes.{fault_words, kind_word, reason_word, refusal_line, refusal_words};
 
-use crate::script::Reason;
+use crate::error::Reason;
 use crate::stop::{FileKind, RefusedInput, Stop};
 use crate::table_refusal::{
     put_capture_fault, put_number, put_past_limit, put_unsupported, table_reason_word,

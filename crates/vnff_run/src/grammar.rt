@@ -17,8 +17,9 @@ ghost use Rattle.vnff_run.specs.Spellable.{IsSpellable};
 ghost use Rattle.vnff_run.specs.declared.script.Script.{Script as SomeScript};
 
 use crate::device_line::{device_of, is_version};
+use crate::error::{Reason, ScriptFault};
 use crate::item_line::item_of;
-use crate::script::{DeviceLine, Item, Reason, Script, ScriptFault};
+use crate::script::{DeviceLine, Item, Script};
 use crate::select_line::{behind_select, selector_in_line};
 use arrayvec::ArrayVec;
 use cap_table::{DeviceCaps, Start};

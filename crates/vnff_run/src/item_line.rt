@@ -5,7 +5,8 @@ ghost use Rattle.vnff_base.specs.Lines.{words_of};
 ghost use Rattle.vnff_run.specs.ItemLines.{admin_of, frame_item, item_of};
 ghost use Rattle.vnff_run.specs.Readings.{IsLineFaultOf};
 
-use crate::script::{Item, LineFault, Reason};
+use crate::error::{LineFault, Reason};
+use crate::script::Item;
 use crate::word::{bytes_within, number_within, one_word, two_words};
 use capture::LONGEST_FRAME;
 use std::alloc::Global;

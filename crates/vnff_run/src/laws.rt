@@ -5,12 +5,12 @@ ghost use Rattle.byte_numbers.specs.Bytes.{IsBytes};
 ghost use Rattle.split_queue.specs.DeviceEnds.{as_pop_answer, pop_answer};
 ghost use Rattle.split_queue.specs.Rings.{available_idx};
 ghost use Rattle.split_queue.specs.declared.queue_place.Place.{Place};
-ghost use Rattle.split_queue.specs.declared.ring_err.RingErr.TheVariants as ring_faults;
+ghost use Rattle.split_queue.specs.declared.error.RingErr.TheVariants as ring_faults;
 ghost use Rattle.vnff_run.specs.Drain.{IsDrainable, chain_at, memory_behind};
 ghost use Rattle.vnff_run.specs.Grammar.{script_of};
 ghost use Rattle.vnff_run.specs.ScriptTexts.{script_text};
 ghost use Rattle.vnff_run.specs.Spellable.{IsSpellable};
-ghost use Rattle.vnff_run.specs.declared.script.Reason.{Reason};
+ghost use Rattle.vnff_run.specs.declared.error.Reason.{Reason};
 ghost use Rattle.vnff_run.specs.declared.script.Script.{Script};
 
 /// A text spells a script or has a first fault, not both, and neither twice.

@@ -24,7 +24,7 @@
 //! form ends early, and `table_refusal` why tables and captures are refused. What is written is gathered by `text`,
 //! `tally`, `load_text` and `drain_text`; `delivery` hands frames to sinks; `compile_text` writes the script of a
 //! compiled table. Scripts are read by `grammar`, line by line: `device_line` (the first two lines), `select_line` and
-//! `item_line`, over the words that `word` reads.
+//! `item_line`, over the words that `word` reads; `error` has what may be wrong with them.
 //!
 //! Live runs: `live_words` (what the words ask for), `live_run` (what is read), `live_call` (how a run ends),
 //! `live_text` (its lines), `live_laws`; `top_call` has the call. In specs/ `LiveWords`, `LiveRuns`, `LiveTexts` (the
@@ -52,6 +52,7 @@ mod drain;
 mod drain_text;
 mod drain_words;
 mod ending;
+mod error;
 mod file;
 mod form;
 mod grammar;
@@ -80,9 +81,10 @@ mod top_call;
 mod word;
 
 pub use ending::{DONE, FAULTY_WORDS, NO_MEMORY, READ_FAULT, REFUSED, WRITE_FAULT};
+pub use error::{Reason, ScriptFault};
 pub use generated_load::draw;
 pub use grammar::{read_device_file, read_script};
 pub use program::plain;
-pub use script::{Item, Reason, Script, ScriptFault};
+pub use script::{Item, Script};
 pub use steer::AdminLine;
 pub use top_call::top;

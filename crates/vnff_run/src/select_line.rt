@@ -7,7 +7,7 @@ ghost use Rattle.vnff_base.specs.Lines.{words_of};
 ghost use Rattle.vnff_run.specs.Readings.{IsLineFaultOf};
 ghost use Rattle.vnff_run.specs.SelectLines.{flags_named, is_select, kind_named, selector_in_line};
 
-use crate::script::{LineFault, Reason};
+use crate::error::{LineFault, Reason};
 use crate::word::{bytes_within, three_words};
 use ff_headers::{Kind, Selector};
 use std::alloc::Global;

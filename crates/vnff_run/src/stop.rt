@@ -4,7 +4,7 @@ ghost use Rattle.std.specs.Prelude.{◌≡◌};
 ghost use Rattle.vnff_run.specs.declared.stop.Stop.TheVariants as stops;
 ghost use Rattle.vnff_run.specs.Endings.{script_stop};
 
-use crate::script::{Reason, ScriptFault};
+use crate::error::{Reason, ScriptFault};
 use crate::table_refusal::{TableLimit, TableReason};
 use capture::CaptureErr;
 use ff_headers::Kind;

@@ -5,11 +5,10 @@ ghost use Rattle.vnff_base.specs.Lines.{words_of};
 ghost use Rattle.vnff_run.specs.Readings.{IsLineFaultOf};
 ghost use Rattle.vnff_run.specs.Words.{bytes_within, number_within};
 
-use crate::script::{LineFault, Reason};
+use crate::error::{LineFault, Reason};
 use std::alloc::Global;
-use vnff_base::hex::{HexErr, hex_read};
 use vnff_base::text::first_word;
-use vnff_base::{List, num_read};
+use vnff_base::{HexErr, List, hex_read, num_read};
 
 /// The number that a word spells, so large at least and at most.
 #[tactic(auto, unfolding(crate::specs::Words::number_within))]

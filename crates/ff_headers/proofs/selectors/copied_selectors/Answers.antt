@@ -5,7 +5,7 @@ use Rattle.ff_headers.specs.SelectorParts.{IsWhole}
 use Rattle.ff_headers.proofs.selectors.copied_selectors.Goals as goal
 
 pub loop-selector-preserved : goal.loop-selector-preserved
-loop-selector-preserved c =
+loop-selector-preserved g c =
     let here = subst IsWhole c.selector-item.is c.copy.ensures.whole in
     record {
       copied_so_far = grind (arith, common_steps);

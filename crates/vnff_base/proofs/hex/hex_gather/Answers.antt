@@ -4,7 +4,7 @@ use Rattle.std.specs.List.{flat_map}
 use Rattle.vnff_base.specs.Hex.{hex_text, hex_pair}
 use Rattle.vnff_base.specs.Gatherings.{Lost}
 use Rattle.vnff_base.proofs.Gathering.{took_some, lost_some, gathers_lost}
-use Rattle.vnff_base.proofs.put_hex.hex_gather.Goals as goal
+use Rattle.vnff_base.proofs.hex.hex_gather.Goals as goal
 
 -- the spelling of some bytes
 hex_text-some : (bytes : List ℕ) → 0 < length bytes → flat_map hex_pair bytes ≡ hex_text bytes
