@@ -1,12 +1,14 @@
 -- A text is read line by line, and a line word by word.
-use Rattle.std.proofs.Common.{◌≡◌, ℕ, ◌+◌, ◌<◌, ◌≤◌, Bool, true, false, List, [], ◌∷◌, length, take, drop, get_or, eqb, filter, sym, ap, ◌∙◌, inl, inr, ◌⊎◌, ltb, Some, None, refl, arith, ⊎_elim, add-zero}
+use Rattle.std.proofs.Common.{◌≡◌, ℕ, ◌+◌, ◌<◌, ◌≤◌, Bool, true, false, List, [], ◌∷◌, length, take, drop, get_or, eqb, filter, sym, ap, ◌∙◌, inl, inr, ◌⊎◌, ltb, Option, Some, None, refl, arith, ⊎_elim, add-zero}
 use Rattle.std.specs.List.{slice_split, position, position_or_len, prefix_len, before_first, after_first, All}
 use Rattle.std.specs.Str.Lines.{lines, lines_of_parts, strip_carriage_return}
-use Rattle.std.proofs.lemmas.Bool.{cases_Bool, cases_lt, cond-true, cond-false, ne_eqb, not_from_false, both_ways, lt-ltb, le-ltb}
-use Rattle.std.proofs.lemmas.List.{take_all, drop_all, drop_more, drop-drop, length-take-le, length-drop, get_or-drop, nil_from_length}
+use Rattle.std.proofs.lemmas.Bool.{cases_Bool, cases_lt, cond-true, cond-false, ne_eqb, not_from_false, both_ways, lt-ltb, le-ltb, false_from_ne_true}
+use Rattle.std.proofs.lemmas.List.{take_all, drop_all, drop_more, drop-drop, length-take-le, length-drop, get_or-drop, get_or-take, nil_from_length}
 use Rattle.std.proofs.lemmas.List.Elements.{All-from_get_or}
 use Rattle.std.proofs.lemmas.List.Splits.{slice_split_first, slice_split_none, slice_split-cons_yes, length-slice_split}
-use Rattle.std.proofs.lemmas.List.Sums.{prefix_len_stops, passes_at_first, fails_before_first}
+use Rattle.std.proofs.lemmas.List.Sums.{prefix_len_stops, passes_at_first, fails_before_first, position_or_len_is}
+use Rattle.std.specs.Option.{unwrap_or}
+use Rattle.memchr.specs.Find.{IsFirstByte, NoneBefore, Nowhere, Passes}
 use Rattle.vnff_base.specs.Lines.{NumberedLine, UnreadLines, is_line_feed, is_blank, is_nonempty, is_skipped, numbered_from, unread_from, words_of}
 
 -- where no element passes, the first place that passes is past the end
@@ -33,6 +35,30 @@ position_cases p xs =
     ⊎_elim (λ inside. inl (cond-true (ltb n (length xs)) (Some n) None (lt-ltb n (length xs) inside), inside))
     (λ past. inr (cond-false (ltb n (length xs)) (Some n) None (le-ltb n (length xs) past), past))
     (cases_lt n (length xs))
+
+-- the first byte that passes, as a search answers it
+fails_before : (test : ℕ → Bool) (text : List ℕ) (end : ℕ) → Nowhere (Passes test text) 0 end → (k : ℕ) → k < end → test (get_or text k 0) ≡ false
+fails_before test text end nowhere k below = false_from_ne_true _ (nowhere k (omega arith) below)
+
+found_none : (test : ℕ → Bool) (text : List ℕ) → Nowhere (Passes test text) 0 (length text) → position_or_len test text ≡ length text
+found_none test text nowhere =
+    position_or_len_is test text (length text) 0 (omega arith) (fails_before test text (length text) nowhere) (λ inside. absurd (omega arith))
+
+found_at : (test : ℕ → Bool) (text : List ℕ) (k : ℕ) → NoneBefore (Passes test text) 0 (length text) k → Passes test text k → position_or_len test text ≡ k
+found_at test text k first passes =
+    position_or_len_is test text k 0 (omega (arith, first.high)) (fails_before test text k first.before) (λ inside. passes)
+
+pub first_byte-position : (test : ℕ → Bool) (text : List ℕ) (found : Option ℕ) → IsFirstByte test text found → found ≡ position test text
+first_byte-position test text None nowhere =
+    ⊎_elim (λ inside. absurd (omega (arith, inside.1, found_none test text nowhere))) (λ past. sym past.0) (position_cases test text)
+first_byte-position test text (Some k) first =
+    ⊎_elim (λ inside. ap Some (sym (found_at test text k first.0 first.1)) ∙ sym inside.0)
+    (λ past. absurd (omega (arith, past.1, first.0.high, found_at test text k first.0 first.1)))
+    (position_cases test text)
+
+pub first_byte-or_len : (test : ℕ → Bool) (text : List ℕ) (found : Option ℕ) → IsFirstByte test text found → unwrap_or found (length text) ≡ position_or_len test text
+first_byte-or_len test text None nowhere = sym (found_none test text nowhere)
+first_byte-or_len test text (Some k) first = sym (found_at test text k first.0 first.1)
 
 -- the same by where the first line feed stands
 pub lines-at : (text : List ℕ) (end : ℕ) → position is_line_feed text ≡ Some end → lines text ≡ strip_carriage_return (take end text) ∷ lines (drop (end + 1) text)
@@ -97,12 +123,28 @@ words_of-none line rest b blanks is empty =
     let skipped : drop (prefix_len is_blank line) line ≡ [] = nil_from_length _ (ap (λ k. length (drop k line)) (sym blanks) ∙ (ap length (sym is) ∙ empty)) in
     sym (words_of-skip line) ∙ (ap words_of skipped ∙ words_of-nil)
 
+begins_behind : (line rest : List ℕ) (b : ℕ) → b ≡ prefix_len is_blank line → rest ≡ drop b line → 0 < length rest → is_blank (get_or rest 0 0) ≡ false
+begins_behind line rest b blanks is some =
+    let same : rest ≡ drop (prefix_len is_blank line) line = is ∙ ap (λ k. drop k line) blanks in
+    let inside : prefix_len is_blank line < length line = omega (arith, ap length same, length-drop (prefix_len is_blank line) line) in
+    ap (λ xs. is_blank (get_or xs 0 0)) same ∙ (ap is_blank (get_or-drop (prefix_len is_blank line) line 0 0 ∙ ap (λ k. get_or line k 0) (add-zero (prefix_len is_blank line))) ∙ prefix_len_stops is_blank line 0 inside)
+
 pub words_of-next : (line rest : List ℕ) (b n : ℕ) → b ≡ prefix_len is_blank line → rest ≡ drop b line → n ≡ position_or_len is_blank rest → 0 < length rest → words_of line ≡ take n rest ∷ words_of (drop n rest)
 words_of-next line rest b n blanks is count some =
     let same : rest ≡ drop (prefix_len is_blank line) line = is ∙ ap (λ k. drop k line) blanks in
-    let inside : prefix_len is_blank line < length line = omega (arith, ap length same, length-drop (prefix_len is_blank line) line) in
-    let begins : is_blank (get_or rest 0 0) ≡ false = ap (λ xs. is_blank (get_or xs 0 0)) same ∙ (ap is_blank (get_or-drop (prefix_len is_blank line) line 0 0 ∙ ap (λ k. get_or line k 0) (add-zero (prefix_len is_blank line))) ∙ prefix_len_stops is_blank line 0 inside) in
+    let begins = begins_behind line rest b blanks is some in
     sym (words_of-skip line) ∙ (ap words_of (sym same) ∙ (words_of-first rest some begins ∙ ap (λ k. take k rest ∷ words_of (drop k rest)) (sym count)))
+
+-- whether a line is skipped, by the first byte behind its blanks
+pub is_skipped-none : (line rest : List ℕ) (b : ℕ) → b ≡ prefix_len is_blank line → rest ≡ drop b line → length rest ≡ 0 → is_skipped (words_of line) ≡ true
+is_skipped-none line rest b blanks is empty = ap is_skipped (words_of-none line rest b blanks is empty)
+
+pub is_skipped-next : (line rest : List ℕ) (b : ℕ) → b ≡ prefix_len is_blank line → rest ≡ drop b line → 0 < length rest → is_skipped (words_of line) ≡ eqb (get_or rest 0 0) 35
+is_skipped-next line rest b blanks is some =
+    let n = position_or_len is_blank rest in
+    let begins = begins_behind line rest b blanks is some in
+    let later : 0 < n = ⊎_elim (λ inside. first_blank_later rest inside begins) (λ past. omega arith) (cases_lt n (length rest)) in
+    ap is_skipped (words_of-next line rest b n blanks is refl some) ∙ ap (λ byte. eqb byte 35) (get_or-take n rest 0 0 later)
 
 same_unread : (a b : UnreadLines) → a.left ≡ b.left → a.missing ≡ b.missing → a ≡ b
 same_unread a b left missing =

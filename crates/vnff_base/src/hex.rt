@@ -77,15 +77,13 @@ fn pair(high: u8, low: u8) -> u8
     16 * digit(high) + digit(low)
 }
 
+// Without a branch, since digits come in no order: the low four bits count the digits from 0 and the letters from 1,
+// and 64 is set in letters alone.
 fn digit(byte: u8) -> u8
     requires { digit_value byte < 16 }
     ensures { result ≡ digit_value byte }
 {
-    match byte {
-        b'0'..=b'9' => byte - b'0',
-        b'A'..=b'F' => byte - b'A' + 10,
-        _ => byte - b'a' + 10,
-    }
+    byte % 16 + 9 * (byte / 64)
 }
 
 /// Writes the bytes in hexadecimal: two digits a byte, letters in lower case, and `-` for no bytes.

@@ -5,6 +5,7 @@ ghost use Rattle.std.specs.List.{position_or_len, prefix_len};
 ghost use Rattle.std.specs.Str.Lines.{lines, strip_carriage_return};
 ghost use Rattle.vnff_base.specs.Lines.{is_blank, is_line_feed, is_skipped, unread_from, words_of};
 
+use memchr::{memchr, memchr2};
 use std::marker::Model;
 
 /// A line of a text that has a word and is no comment.
@@ -84,9 +85,9 @@ impl<'a> LineReader<'a> {
 fn is_skipped(line: &[u8]) -> bool
     ensures { result ≡ is_skipped (words_of line.now) }
 {
-    match first_word(line) {
-        None => true,
-        Some((word, _)) => matches!(word, [b'#', ..]),
+    match &line[blank_len(line)..] {
+        [] => true,
+        [first, ..] => *first == b'#',
     }
 }
 
@@ -108,7 +109,7 @@ pub fn first_line(text: &[u8]) -> Option<(&[u8], &[u8])>
 fn line_end(text: &[u8]) -> Option<usize>
     ensures { result ≡ position is_line_feed text.now }
 {
-    text.iter().position(|byte| *byte == b'\n')
+    memchr(b'\n', text)
 }
 
 fn without_carriage_return(line: &[u8]) -> &[u8]
@@ -147,7 +148,7 @@ fn word_len(line: &[u8]) -> usize
     ensures count { result ≡ position_or_len is_blank line.now }
     ensures inside { result ≤ length line.now }
 {
-    line.iter().take_while(|byte| !is_blank(**byte)).count()
+    memchr2(b' ', b'\t', line).unwrap_or(line.len())
 }
 
 fn is_blank(byte: u8) -> bool

@@ -5,7 +5,7 @@ use Rattle.std.proofs.lemmas.Option.{IfSome_then}
 use Rattle.vnff_base.specs.Shelves.{Files, ShelfState}
 use Rattle.vnff_base.specs.Outputs.{OutputState}
 use Rattle.vnff_base.proofs.Writing.{told_after-nil}
-use Rattle.vnff_run.specs.Endings.{ReadStops, ReadsInput, RunsAs, FormStops, FormEnds, AppendedFront, IsUntouched, IsDone, IsRefusedBehind}
+use Rattle.vnff_run.specs.Endings.{ReadStops, ReadsInput, RunsAs, FormStops, FormEnds, AppendedFront, IsUntouched, IsDone, IsRefusedBehind, NoReadFailed, WhereTold}
 use Rattle.vnff_run.specs.Inputs.{InputFault}
 use Rattle.vnff_run.specs.Outcomes.{Outcome, outcome_with}
 use Rattle.vnff_run.specs.declared.stop.Stop.{Stop}
@@ -33,16 +33,21 @@ form_stops shelf shelf_new out out_new input run stops.SinkFault why left = absu
 form_stops shelf shelf_new out out_new input run stops.Memory why left =
     (why, left.1, where_told shelf.files (λ files. wrote_none out out_new (outcome_with run (input files)).text left.0))
 
+-- what has an outcome was done, where the files have it
+pub outcome_runs : {B : Type 0} (shelf shelf_new : ShelfState) (out out_new : OutputState) (outcome : Files → Outcome) (end : Outcome) (result : Result B Stop) → NoReadFailed shelf shelf_new → WhereTold shelf outcome (λ o. o ≡ end) → RunsAs out out_new end result → FormEnds shelf shelf_new out out_new outcome result
+outcome_runs shelf shelf_new out out_new outcome end (Ok x) none told ran =
+    (none, ran.1.faults, IfSome_then shelf.files told (λ files is. subst (IsDone out out_new) (sym is) ran))
+outcome_runs shelf shelf_new out out_new outcome end (Err stops.ReadFault) none told ran = absurd ran
+outcome_runs shelf shelf_new out out_new outcome end (Err (stops.Refused refused)) none told ran = absurd ran
+outcome_runs shelf shelf_new out out_new outcome end (Err stops.AlreadyRefused) none told ran =
+    (none, ran.1.faults, IfSome_then shelf.files told (λ files is. subst (IsRefusedBehind out out_new) (sym is) ran))
+outcome_runs shelf shelf_new out out_new outcome end (Err stops.WriteFault) none told ran =
+    (none, ran.rose, IfSome_then shelf.files told (λ files is. subst (λ (o : Outcome). AppendedFront out out_new o.text) (sym is) ran.told))
+outcome_runs shelf shelf_new out out_new outcome end (Err stops.SinkFault) none told ran = absurd ran
+outcome_runs shelf shelf_new out out_new outcome end (Err stops.Memory) none told ran =
+    (none, ran.0, IfSome_then shelf.files told (λ files is. subst (λ (o : Outcome). AppendedFront out out_new o.text) (sym is) ran.1))
+
 -- an input that was read is done with
 pub form_runs : {A B : Type 0} (shelf shelf_new : ShelfState) (out out_new : OutputState) (input : Files → Result A InputFault) (run : A → Outcome) (value : A) (result : Result B Stop) → ReadsInput shelf shelf_new input (Ok value) → RunsAs out out_new (run value) result → FormEnds shelf shelf_new out out_new (λ files. outcome_with run (input files)) result
-form_runs shelf shelf_new out out_new input run value (Ok x) read ran =
-    (read.0, ran.1.faults, IfSome_then shelf.files read.1 (λ files is. subst (IsDone out out_new) (sym (ap (outcome_with run) is)) ran))
-form_runs shelf shelf_new out out_new input run value (Err stops.ReadFault) read ran = absurd ran
-form_runs shelf shelf_new out out_new input run value (Err (stops.Refused refused)) read ran = absurd ran
-form_runs shelf shelf_new out out_new input run value (Err stops.AlreadyRefused) read ran =
-    (read.0, ran.1.faults, IfSome_then shelf.files read.1 (λ files is. subst (IsRefusedBehind out out_new) (sym (ap (outcome_with run) is)) ran))
-form_runs shelf shelf_new out out_new input run value (Err stops.WriteFault) read ran =
-    (read.0, ran.rose, IfSome_then shelf.files read.1 (λ files is. subst (λ (o : Outcome). AppendedFront out out_new o.text) (sym (ap (outcome_with run) is)) ran.told))
-form_runs shelf shelf_new out out_new input run value (Err stops.SinkFault) read ran = absurd ran
-form_runs shelf shelf_new out out_new input run value (Err stops.Memory) read ran =
-    (read.0, ran.0, IfSome_then shelf.files read.1 (λ files is. subst (λ (o : Outcome). AppendedFront out out_new o.text) (sym (ap (outcome_with run) is)) ran.1))
+form_runs shelf shelf_new out out_new input run value result read ran =
+    outcome_runs shelf shelf_new out out_new (λ files. outcome_with run (input files)) (run value) result read.0 (IfSome_then shelf.files read.1 (λ files is. ap (outcome_with run) is)) ran

@@ -1,17 +1,18 @@
 -- The numbers of a script's lines have 32 bits, and the lines of its items are read one after another.
-use Rattle.std.proofs.Common.{◌≡◌, ℕ, ◌+◌, ◌<◌, ◌≤◌, ◌^◌, List, [], ◌∷◌, ◌++◌, length, Option, Some, None, Result, Ok, Err, refl, sym, ap, ◌∙◌, append_assoc, append-nil, arith}
-use Rattle.std.specs.Prelude.{IfSome, MatchOption}
+use Rattle.std.proofs.Common.{◌≡◌, ℕ, ◌+◌, ◌<◌, ◌≤◌, ◌^◌, List, [], ◌∷◌, ◌++◌, length, Option, Some, None, Result, Ok, Err, refl, sym, ap, subst, ◌∙◌, append_assoc, append-nil, arith}
+use Rattle.std.specs.Prelude.{IfSome, MatchOption, MatchResult}
 use Rattle.std.specs.Str.Lines.{lines}
-use Rattle.std.proofs.lemmas.List.Elements.{All-weaker, All-same, All-nil, All-head, All-tail}
-use Rattle.vnff_base.specs.Lines.{NumberedLine, UnreadLines, unread_from, numbered_from}
+use Rattle.std.proofs.lemmas.List.Elements.{All-weaker, All-same, All-nil, All-head, All-tail, filter-append}
+use Rattle.vnff_base.specs.Lines.{NumberedLine, UnreadLines, unread_from, numbered_from, words_of}
 use Rattle.vnff_base.specs.declared.text.Line.{Line}
 use Rattle.vnff_base.proofs.TextLaws.{numbered_from-numbers, length-lines-le}
 use Rattle.vnff_base.specs.Shelves.{file_limit}
-use Rattle.vnff_run.specs.Readings.{HasSmallNumbers, IsScriptFault, lines_from, numbered_words}
+use Rattle.vnff_run.specs.Readings.{HasSmallNumbers, IsScriptFault, ReadsItem, is_kept, kept_in, kept_of, lines_from, numbered_words}
 use Rattle.vnff_run.specs.Results.{◌>>=◌}
 use Rattle.vnff_run.specs.Grammar.{at_line, items_of}
 use Rattle.vnff_run.specs.ItemLines.{item_of}
 use Rattle.vnff_run.specs.declared.script.Item.{Item}
+use Rattle.vnff_run.specs.declared.script.Kept.{Kept}
 use Rattle.vnff_run.specs.declared.error.Reason.{Reason}
 use Rattle.vnff_run.specs.declared.error.ScriptFault.{ScriptFault}
 use Rattle.vnff_run.specs.declared.error.ScriptFault.TheVariants as faults
@@ -42,39 +43,43 @@ small_rest old new line is same small = record {
 
 pub ruleset small_numbers = (small_lines, small_first, small_rest)
 
--- items in front of those that lines spell
-abbrev pub with_front : List Item → Result (List Item) (ℕ × Reason) → Result (List Item) (ℕ × Reason)
-with_front items spelled = spelled >>= λ more. Ok (items ++ more)
+-- ---- the items that a reader keeps
 
-with_front-push : (items : List Item) (item : Item) (spelled : Result (List Item) (ℕ × Reason)) → with_front items (spelled >>= λ more. Ok (item ∷ more)) ≡ with_front (items ++ item ∷ []) spelled
-with_front-push items item (Ok more) = ap Ok (sym (append_assoc items (item ∷ []) more))
-with_front-push items item (Err fault) = refl
+-- items in front of those that it keeps of what lines spell
+abbrev pub with_front : Kept → List Item → Result (List Item) (ℕ × Reason) → Result (List Item) (ℕ × Reason)
+with_front kept items spelled = spelled >>= λ more. Ok (items ++ kept_of kept more)
 
--- no item in front
-pub with_front-none : (spelled : Result (List Item) (ℕ × Reason)) → with_front [] spelled ≡ spelled
-with_front-none (Ok more) = refl
-with_front-none (Err fault) = refl
+with_front-push : (kept : Kept) (items : List Item) (item : Item) (spelled : Result (List Item) (ℕ × Reason)) → with_front kept items (spelled >>= λ more. Ok (item ∷ more)) ≡ with_front kept (items ++ kept_of kept (item ∷ [])) spelled
+with_front-push kept items item (Ok more) =
+    ap (λ (kept_more : List Item). Ok (items ++ kept_more)) (filter-append (is_kept kept) (item ∷ []) more) ∙ ap Ok (sym (append_assoc items (kept_of kept (item ∷ [])) (kept_of kept more)))
+with_front-push kept items item (Err fault) = refl
 
 -- one more line is an item
-pub items_of-more : (items : List Item) (left lines : List NumberedLine) (line : NumberedLine) (item : Item) → left ≡ line ∷ lines → at_line line.number (item_of line.words) ≡ Ok item → with_front items (items_of left) ≡ with_front (items ++ item ∷ []) (items_of lines)
+pub items_of-step : (left lines : List NumberedLine) (line : NumberedLine) (item : Item) → left ≡ line ∷ lines → at_line line.number (item_of line.words) ≡ Ok item → items_of left ≡ (items_of lines >>= λ more. Ok (item ∷ more))
 unfolding items_of
-items_of-more items left lines line item cut is = rw (cut, is) (with_front-push items item (items_of lines))
+items_of-step left lines line item cut is = rw (cut, is) refl
+
+pub items_of-more : (kept : Kept) (items : List Item) (left lines : List NumberedLine) (line : NumberedLine) (item : Item) → left ≡ line ∷ lines → at_line line.number (item_of line.words) ≡ Ok item → with_front kept items (items_of left) ≡ with_front kept (items ++ kept_of kept (item ∷ [])) (items_of lines)
+items_of-more kept items left lines line item cut is =
+    ap (with_front kept items) (items_of-step left lines line item cut is) ∙ with_front-push kept items item (items_of lines)
+
+-- the fault of what is left is that of all
+pub kept_in-fault : (kept : Kept) (fault : ScriptFault) (items : List Item) (left all : Result (List Item) (ℕ × Reason)) → with_front kept items left ≡ kept_in kept all → IsScriptFault left fault → IsScriptFault all fault
+kept_in-fault kept (faults.Bad line reason) items left (Ok found) same is = absurd (cc)
+kept_in-fault kept (faults.Bad line reason) items left (Err found) same is =
+    let there : with_front kept items left ≡ Err (line, reason) = ap (with_front kept items) is in
+    cc
+kept_in-fault kept faults.Memory items left all same is = tt
+
+-- no line is left
+pub items_of-end : (kept : Kept) (items : List Item) (left : List NumberedLine) → left ≡ [] → with_front kept items (items_of left) ≡ Ok items
+unfolding items_of
+items_of-end kept items left none = rw none (ap Ok (append-nil items))
 
 -- a fault of a first part is the whole's
 pub fault_of_first : {A B : Type 0} (fault : ScriptFault) (part : Result A (ℕ × Reason)) (next : A → Result B (ℕ × Reason)) → IsScriptFault part fault → IsScriptFault (part >>= next) fault
 fault_of_first (faults.Bad line reason) part next is = ap (λ p. p >>= next) is
 fault_of_first faults.Memory part next is = tt
-
--- a line is none, behind items
-pub items_of-stop : (fault : ScriptFault) (items : List Item) (left lines : List NumberedLine) (line : NumberedLine) (spelled : Result (List Item) (ℕ × Reason)) → left ≡ line ∷ lines → with_front items (items_of left) ≡ spelled → IsScriptFault (at_line line.number (item_of line.words)) fault → IsScriptFault spelled fault
-unfolding items_of
-items_of-stop (faults.Bad number reason) items left lines line spelled cut same is = sym same ∙ rw (cut, is) refl
-items_of-stop faults.Memory items left lines line spelled cut same is = tt
-
--- no line is left
-pub items_of-end : (items : List Item) (next : Option Line) (left : List NumberedLine) → next ≡ None → with_front items (items_of (lines_from next left)) ≡ Ok items
-unfolding items_of
-items_of-end items next left none = rw none (ap Ok (append-nil items))
 
 -- what a reader gives next, and what it leaves
 pub next_lines : (old new : UnreadLines) (next : Option Line) → MatchOption next ((old.left ≡ []) × (new.left ≡ [])) (λ line. old.left ≡ numbered_words line ∷ new.left) → lines_from next new.left ≡ old.left
@@ -86,3 +91,16 @@ next_small old new None is same small =
     (tt, record { left = All-same IsSmall _ _ is.1 (All-nil IsSmall); missing = omega (arith, same, small.missing) })
 next_small old new (Some line) is same small =
     (small_first old new.left (numbered_words line) is small, small_rest old new (numbered_words line) is same small)
+
+first_fault : (more : List NumberedLine) (line : Line) (fault : ScriptFault) → IsScriptFault (at_line line.number (item_of (words_of line.text.now))) fault → IsScriptFault (items_of (numbered_words line ∷ more)) fault
+unfolding items_of
+first_fault more line fault is = fault_of_first fault (at_line line.number (item_of (words_of line.text.now))) _ is
+
+-- an item or a fault is what was read
+pub read_is : (old new : List NumberedLine) (read found : Result Item ScriptFault) → read ≡ found → ReadsItem old new (Some read) → ReadsItem old new (Some found)
+read_is old new read found is was = subst (λ r. ReadsItem old new (Some r)) is was
+
+-- what is read of the next line of items
+pub next_read : (old new : List NumberedLine) (line : Line) (read : Result Item ScriptFault) → old ≡ numbered_words line ∷ new → MatchResult read (λ item. at_line line.number (item_of (words_of line.text.now)) ≡ Ok item) (IsScriptFault (at_line line.number (item_of (words_of line.text.now)))) → ReadsItem old new (Some read)
+next_read old new line (Ok item) cut is = (numbered_words line, cut, is)
+next_read old new line (Err fault) cut is = subst (λ lines. IsScriptFault (items_of lines) fault) (sym cut) (first_fault new line fault is)

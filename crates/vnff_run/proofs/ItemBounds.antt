@@ -5,34 +5,36 @@ use Rattle.std.specs.Prelude.{IfOk, MatchResult, ◌&&◌, if◌then◌else◌, 
 use Rattle.std.specs.List.{All}
 use Rattle.std.specs.Option.{ok_or}
 use Rattle.std.proofs.lemmas.Bool.{and_parts, leb-true}
-use Rattle.std.proofs.lemmas.List.Elements.{All-nil, All-cons}
+use Rattle.std.proofs.lemmas.List.Elements.{All-nil, All-cons, All-filter}
 use Rattle.std.specs.Str.{bytes_eq}
 use Rattle.std.specs.Str.Lines.{lines}
 use Rattle.ff_headers.specs.Kinds.{kind_code}
 use Rattle.ff_headers.specs.SelectorParts.{SelectorParts}
 use Rattle.vnff_base.proofs.TextLaws.{length-lines-le}
 use Rattle.vnff_base.specs.Hex.{hex_bytes}
-use Rattle.vnff_base.specs.Lines.{NumberedLine, UnreadLines, is_skipped, numbered_from, unread_from, words_of}
+use Rattle.vnff_base.specs.Lines.{NumberedLine, is_skipped, numbered_from, words_of}
 use Rattle.vnff_base.specs.Numbers.{number_of}
 use Rattle.capture.specs.Sizes.{longest_frame}
 use Rattle.steer.specs.BenchPlaces.{most_command, most_room}
 use Rattle.vnff_run.specs.DeviceLines.{device_of, is_version}
-use Rattle.vnff_run.specs.Grammar.{after_version, at_line, device_in, items_of, script_of_lines, first_selectors, caps_with_selectors}
+use Rattle.vnff_run.specs.Grammar.{after_version, at_line, device_in, items_of, script_of, script_of_lines, first_selectors, caps_with_selectors}
 use Rattle.vnff_run.specs.ItemLines.{IsItemWithin, admin_of, frame_item, item_of}
-use Rattle.vnff_run.specs.Readings.{IsScriptFault}
+use Rattle.vnff_run.specs.Readings.{IsScriptFault, ReadsKept, is_kept, kept_of, with_kept}
 use Rattle.vnff_run.specs.Results.{◌>>=◌}
 use Rattle.vnff_run.specs.SelectLines.{is_select, selector_in_line}
 use Rattle.vnff_run.specs.Words.{bytes_within, if_within, number_within}
 use Rattle.vnff_run.specs.declared.script.DeviceLine.{DeviceLine}
 use Rattle.vnff_run.specs.declared.script.Item.{Item}
 use Rattle.vnff_run.specs.declared.script.Item.TheVariants.{Admin, Frame}
+use Rattle.vnff_run.specs.declared.script.Kept.{Kept}
+use Rattle.vnff_run.specs.declared.script.Kept.TheVariants.{All as Everything, Commands, Nothing}
 use Rattle.vnff_run.specs.declared.error.Reason.{Reason}
 use Rattle.vnff_run.specs.declared.error.Reason.TheVariants.{Hex, Room, Version, Word}
 use Rattle.vnff_run.specs.declared.script.Script.{Script}
 use Rattle.vnff_run.specs.declared.error.ScriptFault.{ScriptFault}
 
 -- what steps give that are all done
-both_done : {A B E : Type 0} (first : Result A E) (next : A → Result B E) (value : B) → (first >>= next) ≡ Ok value → (part : A) × (first ≡ Ok part) × (next part ≡ Ok value)
+pub both_done : {A B E : Type 0} (first : Result A E) (next : A → Result B E) (value : B) → (first >>= next) ≡ Ok value → (part : A) × (first ≡ Ok part) × (next part ≡ Ok value)
 both_done (Ok part) next value is = (part, refl, is)
 both_done (Err fault) next value is = absurd (cc)
 
@@ -103,6 +105,11 @@ at_line-ok : {A : Type 0} (number : ℕ) (spelled : Result A Reason) (value : A)
 at_line-ok number (Ok x) value is = cc
 at_line-ok number (Err reason) value is = absurd (cc)
 
+-- what is read of a line
+pub read_item_within : (number : ℕ) (words : List (List ℕ)) (read : Result Item ScriptFault) → MatchResult read (λ item. at_line number (item_of words) ≡ Ok item) (IsScriptFault (at_line number (item_of words))) → IfOk read IsItemWithin
+read_item_within number words (Ok item) is = item_within words item (at_line-ok number _ item is)
+read_item_within number words (Err fault) is = tt
+
 items_within : (lines : List NumberedLine) (items : List Item) → items_of lines ≡ Ok items → All IsItemWithin items
 unfolding items_of
 items_within [] items is =
@@ -125,10 +132,13 @@ script_within missing lines script is =
     let same : record { caps = caps_with_selectors device.0.0.caps selected.0.0; start = device.0.0.start; items = items.0 } ≡ script = cc in
     subst (λ (s : Script). All IsItemWithin s.items) same (items_within selected.0.1 items.0 items.1)
 
--- and of what a reader of lines gives
-pub read_within : (read : Result Script ScriptFault) (missing : ℕ) (lines : List NumberedLine) → MatchResult read (λ script. script_of_lines missing lines ≡ Ok script) (IsScriptFault (script_of_lines missing lines)) → IfOk read (λ script. All IsItemWithin script.items)
-read_within (Ok script) missing lines is = script_within missing lines script is
-read_within (Err fault) missing lines is = tt
+-- and of what a reader of a text keeps
+pub kept_within : (kept : Kept) (text : List ℕ) (result : Result Script ScriptFault) → ReadsKept kept (script_of text) result → IfOk result (λ script. All IsItemWithin script.items)
+kept_within kept text (Ok read) is =
+    let whole = both_done (script_of text) _ read is in
+    let same : with_kept kept whole.0 ≡ read = cc in
+    subst (λ (s : Script). All IsItemWithin s.items) same (All-filter (is_kept kept) IsItemWithin whole.0.items (script_within _ _ whole.0 whole.1))
+kept_within kept text (Err fault) is = tt
 
 -- ---- how many items there are
 
@@ -201,9 +211,19 @@ numbered_few from (line ∷ text) =
     let words = words_of line in
     omega (arith, skipped_or (is_skipped words) (record { number = from; words = words }) (numbered_from (from + 1) text) (length text) (numbered_few (from + 1) text))
 
--- a text has no more items than bytes
-pub read_few : (text : List ℕ) (unread : UnreadLines) (read : Result Script ScriptFault) → unread ≡ unread_from 1 text → MatchResult read (λ script. script_of_lines unread.missing unread.left ≡ Ok script) (IsScriptFault (script_of_lines unread.missing unread.left)) → IfOk read (λ script. length script.items ≤ length text)
-read_few text unread (Ok script) all is =
-    let left : length unread.left ≤ length (lines text) = rw all (numbered_few 1 (lines text)) in
-    omega (arith, script_few unread.missing unread.left script is, left, length-lines-le text)
-read_few text unread (Err fault) all is = tt
+-- a reader keeps no more items than there are
+few_of : (kept : Kept) (items : List Item) → length (kept_of kept items) ≤ length items
+few_of kept [] = omega arith
+few_of Everything (item ∷ items) = omega (arith, few_of Everything items)
+few_of Commands (Admin line ∷ items) = omega (arith, few_of Commands items)
+few_of Commands (Frame frame ∷ items) = omega (arith, few_of Commands items)
+few_of Nothing (item ∷ items) = omega (arith, few_of Nothing items)
+
+-- and a text has no more than bytes
+pub kept_few : (kept : Kept) (text : List ℕ) (result : Result Script ScriptFault) → ReadsKept kept (script_of text) result → IfOk result (λ script. length script.items ≤ length text)
+kept_few kept text (Ok read) is =
+    let whole = both_done (script_of text) _ read is in
+    let same : with_kept kept whole.0 ≡ read = cc in
+    subst (λ (s : Script). length s.items ≤ length text) same
+    (omega (arith, few_of kept whole.0.items, script_few _ _ whole.0 whole.1, numbered_few 1 (lines text), length-lines-le text))
+kept_few kept text (Err fault) is = tt

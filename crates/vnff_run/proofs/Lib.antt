@@ -27,6 +27,7 @@ mod SpelledLines
 mod SteerLemmas
 mod TableInputLemmas
 mod TableRows
+mod TakenItems
 mod TallyLemmas
 mod TextLines
 mod WordReadBack

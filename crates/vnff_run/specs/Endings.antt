@@ -1,13 +1,18 @@
 -- What calls did that were to bring about an outcome, or a part of it, where a read or a write may fail and memory may
 -- run out. Nothing but a failed read raises a shelf's count of failures, and nothing but a failed write an output's.
-use Rattle.std.specs.Prelude.{ℕ, ◌≡◌, List, take, IfSome, IsSomeAnd, Result, Ok, Err, ◌⊎◌, ⊤}
+use Rattle.std.specs.Prelude.{ℕ, ◌≡◌, List, ◌++◌, take, IfSome, IsSomeAnd, Result, Ok, Err, ◌⊎◌, ⊤}
 use Rattle.vnff_base.specs.Counts.{Rose}
+use Rattle.vnff_base.specs.Gatherings.{Lost, Took}
 use Rattle.vnff_base.specs.Outputs.{OutputState, told_after, Wrote, Stopped}
 use Rattle.vnff_base.specs.Shelves.{Files, ShelfState}
-use Rattle.vnff_run.specs.Inputs.{InputFault, Missing, Refused}
+use Rattle.vnff_run.specs.Inputs.{InputFault, Missing, Refused, script_in}
 use Rattle.vnff_run.specs.Outcomes.{Outcome, done_status, refused_status, read_status, write_status, memory_status, fault_outcome, refusal_line}
+use Rattle.vnff_run.specs.Readings.{with_kept}
+use Rattle.vnff_run.specs.Results.{◌>>=◌}
 use Rattle.vnff_run.specs.declared.error.ScriptFault.{ScriptFault}
 use Rattle.vnff_run.specs.declared.error.ScriptFault.TheVariants as faults
+use Rattle.vnff_run.specs.declared.script.Kept.{Kept}
+use Rattle.vnff_run.specs.declared.script.Script.{Script}
 use Rattle.vnff_run.specs.declared.stop.RefusedInput.{RefusedInput}
 use Rattle.vnff_run.specs.declared.stop.RefusedInput.TheVariants.{BadScript}
 use Rattle.vnff_run.specs.declared.stop.Stop.{Stop}
@@ -69,6 +74,10 @@ abbrev pub ReadsInput : {A : Type 0} → ShelfState → ShelfState → (Files �
 ReadsInput old new input (Ok value) = NoReadFailed old new × IfSome old.files (λ files. input files ≡ Ok value)
 ReadsInput old new input (Err stop) = ReadStops old new input stop
 
+-- the script in the file of that name, with the items that its reader keeps
+abbrev pub kept_script_in : Kept → List ℕ → Files → Result Script InputFault
+kept_script_in kept name files = script_in name files >>= λ script. Ok (with_kept kept script)
+
 -- The outcome is that an input is refused behind a text, and all of it was written.
 abbrev pub IsRefusedBehind : OutputState → OutputState → Outcome → Type 0
 IsRefusedBehind old new outcome = (outcome.status ≡ refused_status) × Wrote old new outcome.text
@@ -100,6 +109,17 @@ IsDone old new outcome = (outcome.status ≡ done_status) × Wrote old new outco
 abbrev pub RunsAs : {A : Type 0} → OutputState → OutputState → Outcome → Result A Stop → Type 0
 RunsAs old new outcome (Ok _) = IsDone old new outcome
 RunsAs old new outcome (Err stop) = RunStops old new outcome stop
+
+-- Why taking a text behind the bytes that waited stopped: a failed write, or want of memory. A front of both was put.
+abbrev pub TakingStops : OutputState → OutputState → List ℕ → List ℕ → Stop → Type 0
+TakingStops old new waited text stops.WriteFault = Lost old new waited text
+TakingStops old new waited text stops.Memory = NoWriteFailed old new × AppendedFront old new (waited ++ text)
+TakingStops old new waited text _ = ⊥
+
+-- A call takes a text behind the bytes that waited, or stops within it.
+abbrev pub TakesText : {A : Type 0} → OutputState → OutputState → List ℕ → List ℕ → List ℕ → Result A Stop → Type 0
+TakesText old new waited waits text (Ok _) = Took old new waited waits text
+TakesText old new waited waits text (Err stop) = TakingStops old new waited text stop
 
 -- Why a form stopped that calls no sink. Of what is refused the line is not yet written, but for a refusal behind what
 -- was written.

@@ -33,4 +33,5 @@ pub mod TableInputs
 pub mod TableRefusals
 pub mod Tables
 pub mod Tallies
+pub mod UnreadScripts
 pub mod Words

@@ -5,11 +5,16 @@ use Rattle.rx_sinks.specs.Racks.{OneRose}
 use Rattle.rx_sinks.specs.Sinks.{SinkState}
 use Rattle.vnff_base.specs.Outputs.{OutputState}
 use Rattle.vnff_base.specs.Shelves.{Files, ShelfState}
-use Rattle.vnff_run.specs.Endings.{AppendedNothing, FormEnds, FormStops, IsUntouched, NoReadFailed}
+use Rattle.vnff_run.specs.Endings.{AppendedNothing, FormEnds, FormStops, IsUntouched, NoReadFailed, kept_script_in}
 use Rattle.vnff_run.specs.Forms.{WordForm, word_form}
+use Rattle.vnff_run.specs.Inputs.{InputFault}
 use Rattle.vnff_run.specs.Outcomes.{outcome_in}
+use Rattle.vnff_run.specs.Results.{◌>>=◌}
 use Rattle.vnff_run.specs.SteerInputs.{is_steer, steering_by, steering_of}
 use Rattle.vnff_run.specs.Steering.{AllSteered, FrontSteered, Steered, Steering}
+use Rattle.vnff_run.specs.TableInputs.{frames_in}
+use Rattle.vnff_run.specs.declared.script.Kept.TheVariants.{Commands}
+use Rattle.vnff_run.specs.declared.script.Script.{Script}
 use Rattle.vnff_run.specs.declared.stop.Stop.{Stop}
 use Rattle.vnff_run.specs.declared.stop.Stop.TheVariants as stops
 
@@ -62,3 +67,10 @@ FormDoes form shelf shelf_new out out_new old new (Ok x) =
     × (is_steer (Some form) ≡ false → new ≡ old)
     × SinksAre shelf (steering_by (Some form)) old new (λ run. AllSteered run old new)
 FormDoes form shelf shelf_new out out_new old new (Err stop) = StopsWith form shelf shelf_new out out_new old new stop
+
+-- the commands of the script and the frames in the files of these names, read for a steering
+abbrev pub kept_input_in : List ℕ → List ℕ → Files → Result (Script × List (List ℕ)) InputFault
+kept_input_in script capture files = do
+  read ← kept_script_in Commands script files
+  frames ← frames_in capture files
+  Ok (read, frames)

@@ -3,14 +3,14 @@
 ghost use Rattle.std.specs.Prelude.{◌≡◌, ◌≤◌, All, length, IfOk};
 ghost use Rattle.vnff_base.specs.Shelves.{file_limit};
 ghost use Rattle.capture.specs.Sizes.{longest_frame};
-ghost use Rattle.vnff_run.specs.Endings.{ReadsInput};
-ghost use Rattle.vnff_run.specs.Inputs.{file_bytes, script_in};
+ghost use Rattle.vnff_run.specs.Endings.{ReadsInput, kept_script_in};
+ghost use Rattle.vnff_run.specs.Inputs.{file_bytes};
 ghost use Rattle.vnff_run.specs.ItemLines.{IsItemWithin};
 ghost use Rattle.vnff_run.specs.Programs.{capture_stop};
 ghost use Rattle.vnff_run.specs.TableInputs.{frames_in};
 
-use crate::grammar::read_script;
-use crate::script::Script;
+use crate::grammar::read_kept;
+use crate::script::{Kept, Script};
 use crate::stop::{FileKind, RefusedInput, Stop};
 use capture::{CaptureReadErr, Frames, read_capture};
 use std::alloc::Global;
@@ -35,15 +35,20 @@ pub(crate) fn file_bytes<S: Shelf>(
     }
 }
 
-/// The script in a file.
-pub fn script_in<S: Shelf>(alloc: Global, name: &str, shelf: &mut S) -> Result<Script, Stop>
-    ensures read { ReadsInput (S.state shelf.old) (S.state shelf.new) (script_in name.now) result }
+/// The script in a file, with those of its items that are kept.
+pub(crate) fn script_in<S: Shelf>(
+    alloc: Global,
+    kept: Kept,
+    name: &str,
+    shelf: &mut S,
+) -> Result<Script, Stop>
+    ensures read { ReadsInput (S.state shelf.old) (S.state shelf.new) (kept_script_in kept name.now) result }
     ensures items { IfOk result (λ script. All IsItemWithin script.items) }
     ensures few { IfOk result (λ script. length script.items ≤ file_limit) }
     ensures same_files { (S.state shelf.new).files ≡ (S.state shelf.old).files }
 {
     let bytes = file_bytes(alloc, FileKind::Script, name, shelf)?;
-    Ok(read_script(alloc, bytes.as_slice())?)
+    Ok(read_kept(alloc, kept, bytes.as_slice())?)
 }
 
 /// The frames of the capture in a file, which is never held whole.

@@ -1,6 +1,6 @@
 //! Scripts, read from their text: line by line, and each line's words from left to right, each once.
 
-ghost use Rattle.std.specs.Prelude.{◌≡◌, ◌<◌, ◌≤◌, ◌^◌, [], All, length, IfOk, IfSome, MatchResult, OnOk};
+ghost use Rattle.std.specs.Prelude.{◌≡◌, ◌<◌, ◌≤◌, ◌^◌, [], ◌∷◌, ◌++◌, All, length, IfOk, IfSome, MatchResult, OnOk};
 ghost use Rattle.ff_headers.specs.Kinds.{kind_code};
 ghost use Rattle.ff_headers.specs.SelectorParts.{IsWhole};
 ghost use Rattle.vnff_base.specs.Lines.{words_of};
@@ -9,22 +9,23 @@ ghost use Rattle.vnff_base.specs.Shelves.{file_limit};
 ghost use Rattle.vnff_run.specs.DeviceFiles.{device_file_of, device_file_of_lines, first_number, ready_start};
 ghost use Rattle.vnff_run.specs.Grammar.{after_version, at_line, device_in, items_of, script_of, script_of_lines};
 ghost use Rattle.vnff_run.specs.Grammar.{first_selectors, caps_with_selectors};
-ghost use Rattle.vnff_run.specs.ItemLines.{IsItemWithin, item_of};
-ghost use Rattle.vnff_run.specs.Readings.{HasSmallNumbers, IsScriptFault, lines_from};
+ghost use Rattle.vnff_run.specs.ItemLines.{IsItemWithin};
+ghost use Rattle.vnff_run.specs.Readings.{HasSmallNumbers, IsScriptFault, ReadsKept, kept_in, kept_of, lines_from};
 ghost use Rattle.vnff_run.specs.ScriptTexts.{script_text};
 ghost use Rattle.vnff_run.specs.SelectLines.{selector_in_line};
 ghost use Rattle.vnff_run.specs.Spellable.{IsSpellable};
+ghost use Rattle.vnff_run.specs.UnreadScripts.{OpensScript, spelled_by};
 ghost use Rattle.vnff_run.specs.declared.script.Script.{Script as SomeScript};
 
 use crate::device_line::{device_of, is_version};
 use crate::error::{Reason, ScriptFault};
-use crate::item_line::item_of;
-use crate::script::{DeviceLine, Item, Script};
+use crate::script::{DeviceLine, Item, Kept, Script};
 use crate::select_line::{behind_select, selector_in_line};
+use crate::unread_script::{ItemReader, UnreadScript};
 use arrayvec::ArrayVec;
 use cap_table::{DeviceCaps, Start};
 use ff_headers::Selector;
-use std::alloc::Global;
+use std::alloc::{AllocError, Global};
 use vnff_base::List;
 use vnff_base::text::{Line, LineReader};
 
@@ -41,23 +42,48 @@ pub fn read_script(alloc: Global, bytes: &[u8]) -> Result<Script, ScriptFault>
     // There are no more items than bytes.
     ensures few { IfOk result (λ script. length script.items ≤ length bytes.now) }
 {
-    read_lines(alloc, &mut LineReader::new(bytes))
+    read_kept(alloc, Kept::All, bytes)
 }
 
-/// Reads all lines of a script.
-#[tactic(auto, unfolding(crate::specs::Grammar::script_of_lines))]
-fn read_lines(alloc: Global, reader: &mut LineReader) -> Result<Script, ScriptFault>
-    requires { HasSmallNumbers reader.old }
-    ensures { let spelled = script_of_lines reader.old.missing reader.old.left in
-        MatchResult result (λ script. spelled ≡ Ok script) (IsScriptFault spelled) }
+/// The script that the bytes spell, at most 67,108,864 of them, with those of its items that are kept, or its first
+/// fault.
+pub(crate) fn read_kept(alloc: Global, kept: Kept, bytes: &[u8]) -> Result<Script, ScriptFault>
+    requires { length bytes.now ≤ file_limit }
+    ensures read { ReadsKept kept (script_of bytes.now) result }
+    ensures within { IfOk result (λ script. All IsItemWithin script.items) }
+    ensures few { IfOk result (λ script. length script.items ≤ length bytes.now) }
 {
-    read_version(reader)?;
-    let (_, DeviceLine { caps, start }) = read_device(reader)?;
-    let mut selectors = ArrayVec::new();
-    let first = read_selectors(alloc, reader, &mut selectors)?;
-    let items = read_items(alloc, first, reader)?;
-    let caps = caps_with_selectors(caps, selectors);
+    let UnreadScript { caps, start, items } = read_head(alloc, LineReader::new(bytes))?;
+    let items = read_items(alloc, kept, items)?;
     Ok(Script { caps, start, items })
+}
+
+/// The script that the bytes spell, at most 67,108,864 of them, with all its items to be read once more, or its first
+/// fault.
+pub(crate) fn open_script(alloc: Global, bytes: &[u8]) -> Result<UnreadScript<'_>, ScriptFault>
+    requires { length bytes.now ≤ file_limit }
+    ensures { OpensScript (script_of bytes.now) result }
+{
+    read_kept(alloc, Kept::Nothing, bytes)?;
+    read_head(alloc, LineReader::new(bytes))
+}
+
+/// Reads the lines of a script before those of its items.
+#[tactic(auto, unfolding(crate::specs::Grammar::script_of_lines))]
+fn read_head(alloc: Global, mut reader: LineReader<'_>) -> Result<UnreadScript<'_>, ScriptFault>
+    requires { HasSmallNumbers reader }
+    ensures { let spelled = script_of_lines reader.entry.missing reader.entry.left in
+        MatchResult result (λ script. spelled ≡ spelled_by script) (IsScriptFault spelled) }
+{
+    read_version(&mut reader)?;
+    let (_, DeviceLine { caps, start }) = read_device(&mut reader)?;
+    let mut selectors = ArrayVec::new();
+    let first = read_selectors(alloc, &mut reader, &mut selectors)?;
+    Ok(UnreadScript {
+        caps: caps_with_selectors(caps, selectors),
+        start,
+        items: ItemReader::new(first, reader),
+    })
 }
 
 /// The device that the bytes of a file spell, at most 67,108,864 of them, as a script without items, or its first
@@ -193,32 +219,28 @@ fn caps_with_selectors(caps: DeviceCaps, selectors: ArrayVec<Selector, 5>) -> De
     DeviceCaps::new(caps.pairs(), *caps.limits(), selectors)
 }
 
-/// Reads the lines of items, from the first on, which are all that are left.
+/// Reads all items that are left, and keeps some.
 fn read_items(
     alloc: Global,
-    first: Option<Line<'_>>,
-    reader: &mut LineReader,
+    kept: Kept,
+    mut unread: ItemReader<'_>,
 ) -> Result<List<Item>, ScriptFault>
-    requires small { HasSmallNumbers reader.old }
-    requires first_small { IfSome first (λ line. line.number < 2 ^ 32) }
-    ensures { let lines = lines_from first.entry reader.old.left in
-        MatchResult result (λ items. items_of lines ≡ Ok items) (IsScriptFault (items_of lines)) }
+    ensures { let spelled = items_of unread.entry in
+        MatchResult result (λ items. kept_in kept spelled ≡ Ok items) (IsScriptFault spelled) }
 {
     let mut items = List::new(alloc);
-    let mut next = first;
-    while let Some(line) = next {
-        let item = read_item(alloc, line)?;
-        items.push(item)?;
-        next = reader.next_line();
+    while let Some(item) = unread.next_item(alloc) {
+        keep_item(kept, &mut items, item?)?;
     }
     Ok(items)
 }
 
-/// Reads the line of an item.
-fn read_item(alloc: Global, line: Line<'_>) -> Result<Item, ScriptFault>
-    requires { line.number < 2 ^ 32 }
-    ensures { let spelled = at_line line.entry.number (item_of (words_of line.entry.text.now)) in
-        MatchResult result (λ item. spelled ≡ Ok item) (IsScriptFault spelled) }
+/// Keeps an item behind others, if it is one to be kept.
+fn keep_item(kept: Kept, items: &mut List<Item>, item: Item) -> Result<(), AllocError>
+    ensures { OnOk result (items.new ≡ items.old ++ kept_of kept (item ∷ [])) }
 {
-    item_of(alloc, line.text).map_err(|fault| fault.at(line.number))
+    if kept.keeps(&item) {
+        items.push(item)?;
+    }
+    Ok(())
 }

@@ -24,7 +24,8 @@
 //! form ends early, and `table_refusal` why tables and captures are refused. What is written is gathered by `text`,
 //! `tally`, `load_text` and `drain_text`; `delivery` hands frames to sinks; `compile_text` writes the script of a
 //! compiled table. Scripts are read by `grammar`, line by line: `device_line` (the first two lines), `select_line` and
-//! `item_line`, over the words that `word` reads; `error` has what may be wrong with them.
+//! `item_line`, over the words that `word` reads; `unread_script` reads items as they are asked for, and `error` has
+//! what may be wrong with them.
 //!
 //! Live runs: `live_words` (what the words ask for), `live_run` (what is read), `live_call` (how a run ends),
 //! `live_text` (its lines), `live_laws`; `top_call` has the call. In specs/ `LiveWords`, `LiveRuns`, `LiveTexts` (the
@@ -37,8 +38,8 @@
 //! `Spellable` (which scripts have one); `Replay`, `CompileTexts`, `Tables` and `Loads` (what these forms write) and
 //! `TableRefusals` (the words of refusals); `Steering` and `SteerInputs` (what is steered, and what sinks get);
 //! `LoadWords`, `DrainWords` and `Drain` (the words behind `gen` and `drain`, and what a drain finds and writes).
-//! `Readings`, `Endings`, `SteerEndings`, `Results`, `Programs`, `Deliveries` and `Tallies` are the code's own. The
-//! laws that stand on no other call are those of `laws`. Worked rows stand in `proofs/Rows.antt`,
+//! `Readings`, `UnreadScripts`, `Endings`, `SteerEndings`, `Results`, `Programs`, `Deliveries` and `Tallies` are the
+//! code's own. The laws that stand on no other call are those of `laws`. Worked rows stand in `proofs/Rows.antt`,
 //! `proofs/TableRows.antt`, `proofs/LoadRows.antt` and `proofs/DrainRows.antt`, faulty texts in
 //! `proofs/GrammarExamples.antt`.
 #![tactic(auto)]
@@ -78,6 +79,7 @@ mod table_refusal;
 mod tally;
 mod text;
 mod top_call;
+mod unread_script;
 mod word;
 
 pub use ending::{DONE, FAULTY_WORDS, NO_MEMORY, READ_FAULT, REFUSED, WRITE_FAULT};

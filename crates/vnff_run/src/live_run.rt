@@ -9,7 +9,7 @@ ghost use Rattle.vnff_run.specs.LiveWords.{live_view};
 
 use crate::file::{frames_in, script_in};
 use crate::live_words::LiveForm;
-use crate::script::{Item, Script};
+use crate::script::{Item, Kept, Script};
 use crate::stop::Stop;
 use admin_dev::Start;
 use cap_table::DeviceCaps;
@@ -41,7 +41,7 @@ pub(crate) fn live_in<S: Shelf>(
     ensures few { IfOk result (λ run. length run.commands ≤ file_limit) }
     ensures workers { IfOk result (λ run. run.workers ≡ form.entry.workers) }
 {
-    let script = script_in(alloc, form.script, shelf)?;
+    let script = script_in(alloc, Kept::Commands, form.script, shelf)?;
     let frames = frames_in(alloc, form.capture, shelf)?;
     run_over(alloc, form, script, frames)
 }

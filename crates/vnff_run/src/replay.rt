@@ -1,26 +1,32 @@
 //! The form `replay SCRIPT`: the items of a script, in order, and a line for each.
 
-ghost use Rattle.std.specs.Prelude.{◌≡◌, ◌∷◌, [], All, OnOk};
+ghost use Rattle.std.specs.Prelude.{◌≡◌, ◌∷◌, [], List, Ok, OnOk};
 ghost use Rattle.vnff_base.specs.Gatherings.{Gathers};
-ghost use Rattle.vnff_base.specs.Outputs.{Writes};
-ghost use Rattle.vnff_run.specs.Endings.{FormEnds, RunsAs};
+ghost use Rattle.vnff_run.specs.Endings.{FormEnds, RunsAs, TakesText};
 ghost use Rattle.vnff_run.specs.Forms.{Replay};
+ghost use Rattle.vnff_run.specs.Grammar.{items_of};
 ghost use Rattle.vnff_run.specs.ItemLines.{IsCommandWithin, IsItemWithin};
 ghost use Rattle.vnff_run.specs.Outcomes.{done_outcome, outcome_in};
 ghost use Rattle.vnff_run.specs.Replay.{reply_line, frame_line, item_line, lines_of, replay_text, state_after_items};
+ghost use Rattle.vnff_run.specs.UnreadScripts.{spelled_by};
+ghost use Rattle.vnff_run.specs.declared.script.Item.{Item as SomeItem};
+ghost use Rattle.vnff_run.specs.declared.script.Script.{Script as SomeScript};
 ghost use Rattle.ff_headers.specs.Frames.{headers_of};
 ghost use Rattle.ff_headers.specs.Places.{action_of};
 ghost use Rattle.cap_table.specs.Steps.{reply_of, next_state};
 
-use crate::file::script_in;
-use crate::script::{Item, Script};
-use crate::stop::Stop;
+use crate::file::file_bytes;
+use crate::grammar::open_script;
+use crate::script::Item;
+use crate::stop::{FileKind, Stop};
 use crate::text::{put_frame_line, put_reply_line};
+use crate::unread_script::{ItemReader, UnreadScript};
 use std::alloc::Global;
 use steer::{AdminLine, Bench};
 use vnff_base::{Failed, Gathered, Out, Shelf};
 
-/// Replays the script in a file.
+/// Replays the script in a file. Its text is read twice, first for its faults and then item by item, so that no list of
+/// items is held.
 pub fn replay<S: Shelf, O: Out>(
     alloc: Global,
     name: &str,
@@ -30,50 +36,52 @@ pub fn replay<S: Shelf, O: Out>(
     ensures { FormEnds (S.state shelf.old) (S.state shelf.new) (O.state out.old) (O.state out.new)
         (outcome_in (Replay name.now)) result }
 {
-    let script = script_in(alloc, name, shelf)?;
-    replay_script(alloc, script, out)
+    let bytes = file_bytes(alloc, FileKind::Script, name, shelf)?;
+    replay_script(alloc, open_script(alloc, bytes.as_slice())?, out)
 }
 
 /// Replays a script, on a device of its own.
-fn replay_script<O: Out>(alloc: Global, script: Script, out: &mut O) -> Result<(), Stop>
-    requires { All IsItemWithin script.items }
-    ensures { RunsAs (O.state out.old) (O.state out.new) (done_outcome (replay_text script)) result }
+fn replay_script<O: Out>(alloc: Global, script: UnreadScript<'_>, out: &mut O) -> Result<(), Stop>
+    ensures { (whole : SomeScript) → spelled_by script.entry ≡ Ok whole
+        → RunsAs (O.state out.old) (O.state out.new) (done_outcome (replay_text whole)) result }
 {
-    let Script { caps, start, items } = script;
+    let UnreadScript { caps, start, items } = script;
     let mut bench = Bench::new(alloc, caps, start)?;
     let mut text = Gathered::new(alloc)?;
-    Ok(put_text(&mut bench, items.as_slice(), &mut text, out)?)
+    put_text(alloc, &mut bench, items, &mut text, out)
 }
 
 /// Does what the items ask for, in order, and writes the whole text of their lines.
 fn put_text<O: Out>(
+    alloc: Global,
     bench: &mut Bench,
-    items: &[Item],
+    items: ItemReader<'_>,
     text: &mut Gathered,
     out: &mut O,
-) -> Result<(), Failed>
-    requires within { All IsItemWithin items.now }
-    requires none { text.old ≡ [] }
-    ensures { Writes (O.state out.old) (O.state out.new) (lines_of bench.old.device items.now) result }
+) -> Result<(), Stop>
+    requires { text.old ≡ [] }
+    ensures { (all : List SomeItem) → items_of items.entry ≡ Ok all
+        → RunsAs (O.state out.old) (O.state out.new) (done_outcome (lines_of bench.old.device all)) result }
 {
-    put_items(bench, items, text, out)?;
-    text.finish(out)
+    put_items(alloc, bench, items, text, out)?;
+    Ok(text.finish(out)?)
 }
 
-/// Does what the items ask for, in order, and writes a line for each.
+/// Does what the items ask for, in order, and takes a line for each.
 fn put_items<O: Out>(
+    alloc: Global,
     bench: &mut Bench,
-    items: &[Item],
+    mut items: ItemReader<'_>,
     text: &mut Gathered,
     out: &mut O,
-) -> Result<(), Failed>
-    requires { All IsItemWithin items.now }
-    ensures lines { Gathers (O.state out.old) (O.state out.new) text.old text.new
-        (lines_of bench.old.device items.now) result }
-    ensures state { OnOk result (bench.new.device ≡ state_after_items bench.old.device items.now) }
+) -> Result<(), Stop>
+    ensures lines { (all : List SomeItem) → items_of items.entry ≡ Ok all
+        → TakesText (O.state out.old) (O.state out.new) text.old text.new (lines_of bench.old.device all) result }
+    ensures state { (all : List SomeItem) → items_of items.entry ≡ Ok all
+        → OnOk result (bench.new.device ≡ state_after_items bench.old.device all) }
 {
-    for item in items {
-        put_item(bench, item, text, out)?;
+    while let Some(item) = items.next_item(alloc) {
+        put_item(bench, &item?, text, out)?;
     }
     Ok(())
 }

@@ -1,5 +1,8 @@
 //! Scripts.
 
+ghost use Rattle.std.specs.Prelude.{◌≡◌};
+ghost use Rattle.vnff_run.specs.Readings.{is_kept};
+
 use admin_dev::Start;
 use cap_table::DeviceCaps;
 use steer::AdminLine;
@@ -27,4 +30,25 @@ pub struct Script {
 pub struct DeviceLine {
     pub caps: DeviceCaps,
     pub start: Start,
+}
+
+/// Which items of a script its reader keeps. All are read, and the first fault of any ends it.
+#[derive(Clone, Copy, Debug)]
+pub(crate) enum Kept {
+    All,
+    Commands,
+    Nothing,
+}
+
+impl Kept {
+    /// Whether this item is kept.
+    pub(crate) fn keeps(self, item: &Item) -> bool
+        ensures { result ≡ is_kept self item.now }
+    {
+        match self {
+            Kept::All => true,
+            Kept::Commands => matches!(item, Item::Admin(_)),
+            Kept::Nothing => false,
+        }
+    }
 }

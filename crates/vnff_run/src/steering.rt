@@ -11,13 +11,12 @@ ghost use Rattle.vnff_run.specs.Forms.{Steer};
 ghost use Rattle.vnff_run.specs.ItemLines.{IsCommandWithin, IsItemWithin};
 ghost use Rattle.vnff_run.specs.Outcomes.{done_outcome};
 ghost use Rattle.vnff_run.specs.Replay.{state_after_items};
-ghost use Rattle.vnff_run.specs.SteerEndings.{FormDoes};
-ghost use Rattle.vnff_run.specs.SteerInputs.{steer_input_in};
+ghost use Rattle.vnff_run.specs.SteerEndings.{FormDoes, kept_input_in};
 ghost use Rattle.vnff_run.specs.Steering.{steer_text, steering_for};
 
 use crate::delivery::deliver_and_finish;
 use crate::file::{frames_in, script_in};
-use crate::script::{Item, Script};
+use crate::script::{Item, Kept, Script};
 use crate::stop::Stop;
 use capture::Frames;
 use rx_sinks::{Rack, SinkList};
@@ -44,7 +43,7 @@ pub fn steer_frames<S: Shelf, O: Out>(
     steer_script(alloc, script, &frames, out, rack)
 }
 
-/// The script in a file, and the frames of the capture in another.
+/// The commands of the script in a file, and the frames of the capture in another.
 fn steer_input_in<S: Shelf>(
     alloc: Global,
     script: &str,
@@ -52,11 +51,11 @@ fn steer_input_in<S: Shelf>(
     shelf: &mut S,
 ) -> Result<(Script, Frames), Stop>
     ensures read { ReadsInput (S.state shelf.old) (S.state shelf.new)
-        (steer_input_in script.now capture.now) result }
+        (kept_input_in script.now capture.now) result }
     ensures items { IfOk result (λ input. All IsItemWithin input.0.items) }
     ensures short { IfOk result (λ input. All (λ frame. length frame ≤ longest_frame) input.1) }
 {
-    let script = script_in(alloc, script, shelf)?;
+    let script = script_in(alloc, Kept::Commands, script, shelf)?;
     let frames = frames_in(alloc, capture, shelf)?;
     Ok((script, frames))
 }

@@ -1,15 +1,12 @@
-use Rattle.std.proofs.Common.{◌≡◌, ◌<◌, ◌^◌, IfSome, length}
+use Rattle.std.proofs.Common.{◌≡◌, length}
 use Rattle.vnff_run.specs.Grammar.{items_of}
-use Rattle.vnff_run.specs.Readings.{HasSmallNumbers, lines_from}
+use Rattle.vnff_run.specs.Readings.{kept_in}
 use Rattle.vnff_run.proofs.GrammarLemmas.{with_front}
 use Rattle.vnff_run.proofs.grammar.read_items.Given as goal
 
-abbrev pub invariant-loop-next : goal.invariant-loop-next
-invariant-loop-next l = record {
-  same : with_front l.items (items_of (lines_from l.next l.reader.left)) ≡ items_of (lines_from l.initial.first l.initial.reader.left);
-  small : HasSmallNumbers l.reader;
-  next_small : IfSome l.next (λ line. line.number < 2 ^ 32);
-}
+abbrev pub invariant-loop-item : goal.invariant-loop-item
+invariant-loop-item l =
+    with_front l.kept l.items (items_of l.unread) ≡ kept_in l.kept (items_of l.initial.unread)
 
-abbrev pub decreases-loop-next : goal.decreases-loop-next
-decreases-loop-next l = length (lines_from l.next l.reader.left)
+abbrev pub decreases-loop-item : goal.decreases-loop-item
+decreases-loop-item l = length l.unread

@@ -1,39 +1,34 @@
-use Rattle.std.proofs.Common.{◌<◌, length, arith, refl}
-use Rattle.std.specs.List.{range_with_len}
-use Rattle.std.proofs.lemmas.List.FromFn.{length-range_with_len}
-use Rattle.vnff_base.proofs.Gathering.{took_nothing, took_item, took_items, lost_item, gathers_lost}
-use Rattle.cap_table.specs.Steps.{state_after}
-use Rattle.vnff_run.specs.Replay.{line_at, lines_of}
-use Rattle.vnff_run.proofs.ReplayLemmas.{line_is, state_is, place_within, place_is}
+use Rattle.std.proofs.lemmas.Result.{err_from_is_err_and}
+use Rattle.vnff_run.proofs.GrammarLemmas.{read_is}
+use Rattle.vnff_run.proofs.TakenItems.{all_taken, more_taken, none_taken, reading_stops, taking_stops}
 use Rattle.vnff_run.proofs.replay.put_items.Goals as goal
 
 pub loop-item-init : goal.loop-item-init
-unfolding state_after
-loop-item-init g c = record { state = refl; took = took_nothing _ _ }
+loop-item-init g c = λ all is. none_taken _ _ _ _ all is
+
+pub loop-item-preserved-in_ok-put_item : goal.loop-item-preserved-in_ok-put_item
+loop-item-preserved-in_ok-put_item g c =
+    let read = read_is _ _ _ _ c.in_ok-item.was c.in-Some.ensures.read in
+    λ all is. more_taken read.0 _ (c.loop-item.invariant all is) read.1 read.2 c.in_ok-put_item.ensures.state c.in_ok-put_item.ensures.line
 
 pub loop-item-preserved : goal.loop-item-preserved
 loop-item-preserved g c =
-    let i = c.loop-item.item-index in
-    let items = c.args.items.now in
-    let within : i < length items = omega arith in
-    let is = line_is c.args.bench.now.device c.loop-item.bench.device items i c.item-item.result c.loop-item.invariant.state within c.item-item.is in
-    record {
-      state = state_is _ _ _ items i _ c.loop-item.invariant.state within c.item-item.is c.in_ok-put_item.ensures.state;
-      took = took_item (line_at c.args.bench.now.device items) (range_with_len 0 (length items)) i i i (place_within _ i within) (place_is _ i within) c.loop-item.invariant.took (rw (← is) c.in_ok-put_item.ensures.line);
-    }
+    let read = read_is _ _ _ _ c.in_ok-item.was c.in-Some.ensures.read in
+    λ all is. more_taken read.0 _ (c.loop-item.invariant all is) read.1 read.2 c.in_ok-put_item.ensures.state c.in_ok-put_item.ensures.line
+
+pub returns-in_err-item-clause-lines : goal.returns-in_err-item-clause-lines
+returns-in_err-item-clause-lines g c =
+    let p = err_from_is_err_and c.from_residual.result c.from_residual.ensures.1 in
+    λ all is. rw (p.1, p.2) (reading_stops _ (c.loop-item.invariant all is) (read_is _ _ _ _ c.in_err-item.was c.in-Some.ensures.read))
 
 pub returns-in_err-put_item-clause-lines : goal.returns-in_err-put_item-clause-lines
-unfolding lines_of
 returns-in_err-put_item-clause-lines g c =
-    let i = c.loop-item.item-index in
-    let items = c.args.items.now in
-    let within : i < length items = omega arith in
-    let is = line_is c.args.bench.now.device c.loop-item.bench.device items i c.item-item.result c.loop-item.invariant.state within c.item-item.is in
-    gathers_lost _ _ _ c.from_residual.ensures.1
-    (lost_item (line_at c.args.bench.now.device items) (range_with_len 0 (length items)) i i i (place_within _ i within) (place_is _ i within) c.loop-item.invariant.took (rw (← is) c.in_err-put_item.ensures.line))
+    let p = err_from_is_err_and c.from_residual-in_err-put_item.result c.from_residual-in_err-put_item.ensures.1 in
+    let read = read_is _ _ _ _ c.in_ok-item.was c.in-Some.ensures.read in
+    λ all is. rw (p.1, p.2) (taking_stops read.0 _ (c.loop-item.invariant all is) read.1 read.2 c.in_err-put_item.ensures.line)
 
 pub returns-clause-lines : goal.returns-clause-lines
-unfolding lines_of
-returns-clause-lines g c =
-    let items = c.args.items.now in
-    took_items (line_at c.args.bench.now.device items) (range_with_len 0 (length items)) c.loop-item.item-index (rw length-range_with_len (omega arith)) c.loop-item.invariant.took
+returns-clause-lines g c = λ all is. (all_taken (c.loop-item.invariant all is) c.in_default.ensures.read).0
+
+pub returns-clause-state : goal.returns-clause-state
+returns-clause-state g c = λ all is. (all_taken (c.loop-item.invariant all is) c.in_default.ensures.read).1
