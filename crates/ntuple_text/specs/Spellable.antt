@@ -3,7 +3,7 @@ use Rattle.std.specs.Prelude.{◌≡◌, ℕ, ◌<◌, ◌≤◌, if◌then◌el
 use Rattle.std.specs.Prelude.{List, length, slice_index_or, Option, Some, None, IfSome}
 use Rattle.ntuple_text.specs.Keys.{is_ether, is_ip6}
 use Rattle.ntuple_text.specs.SpecTexts.{form_range}
-use Rattle.ntuple_text.specs.TableMaps.{location_count, pair_limit}
+use Rattle.ntuple_text.specs.TableMaps.{location_count, most_pairs}
 use Rattle.ntuple_text.specs.declared.key.FieldForm.{FieldForm}
 use Rattle.ntuple_text.specs.declared.key.FieldForm.TheVariants.{Mac, Ipv4, Ipv6, Bits8, Bits16}
 use Rattle.ntuple_text.specs.declared.spec.Flow.{Flow}
@@ -68,6 +68,6 @@ pub record IsSpellable (pairs : ℕ) (spec : Spec) : Type 0 where
 pub record IsTable (pairs : ℕ) (slots : List (Option Spec)) : Type 0 where
   pub size : length slots ≡ location_count
   pub some : 1 ≤ pairs
-  pub few : pairs ≤ pair_limit
+  pub few : pairs ≤ most_pairs
   pub spelled : (loc : ℕ) →
       IfSome (slice_index_or slots loc None) (λ spec. (spec.loc ≡ loc) × IsSpellable pairs spec)

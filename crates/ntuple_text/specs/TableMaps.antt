@@ -8,8 +8,8 @@ abbrev pub location_count : ℕ
 location_count = 1024
 
 -- the most queue pairs that a table is for
-abbrev pub pair_limit : ℕ
-pair_limit = 16
+abbrev pub most_pairs : ℕ
+most_pairs = 16
 
 -- the queue pairs that the table's queues are below, and what stands at each of its locations, from 0 up
 pub record TableMap : Type 0 where

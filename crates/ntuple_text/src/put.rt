@@ -10,7 +10,7 @@ ghost use Rattle.ntuple_text.specs.SpecTexts.{part_text, queue_words, skip_text,
 ghost use Rattle.ntuple_text.specs.SpecTexts.{table_lines, value_text};
 ghost use Rattle.ntuple_text.specs.Spellable.{IsSpellable};
 ghost use Rattle.ntuple_text.specs.TableLines.{after_line, table_of};
-ghost use Rattle.ntuple_text.specs.TableMaps.{TableMap, location_count, pair_limit, with_spec};
+ghost use Rattle.ntuple_text.specs.TableMaps.{TableMap, location_count, most_pairs, with_spec};
 
 use crate::key::SpecField;
 use crate::put_piece::{put_form, put_mac, put_number, put_type};
@@ -63,7 +63,7 @@ pub fn put_spec<O: Out>(out: &mut O, spec: &Spec) -> Result<(), Failed>
     ensures written { Writes (O.state out.old) (O.state out.new) (spec_text spec.now) result }
 
     // The line of a spec that lines can spell puts just this spec into any table.
-    ensures read_back { (table : TableMap) → table.pairs ≤ pair_limit → IsSpellable table.pairs spec.now
+    ensures read_back { (table : TableMap) → table.pairs ≤ most_pairs → IsSpellable table.pairs spec.now
         → after_line table (words_of (spec_text spec.now)) ≡ Ok (with_spec table spec.now) }
 {
     out.put(b"flow-type ")?;

@@ -6,7 +6,7 @@ ghost use Rattle.ntuple_text.specs.Spellable.{IsSpellable};
 ghost use Rattle.ntuple_text.specs.TableLines.{after_delete, after_directive, after_line, after_lines, is_flag};
 ghost use Rattle.ntuple_text.specs.TableLines.{location_or_free, spec_at_end, spec_of, table_of};
 ghost use Rattle.ntuple_text.specs.TableLines.{without_command};
-ghost use Rattle.ntuple_text.specs.TableMaps.{pair_limit};
+ghost use Rattle.ntuple_text.specs.TableMaps.{most_pairs};
 
 use crate::draft::{Awaits, Draft};
 use crate::error::{Fault, TextErr};
@@ -23,7 +23,7 @@ use vnff_base::{LineReader, first_word};
 pub fn read_table(alloc: Global, text: &[u8], pairs: u8) -> Result<Table, TextErr>
     requires text { length text.now ≤ file_limit }
     requires some_pairs { 1 ≤ pairs }
-    requires most_pairs { pairs ≤ pair_limit }
+    requires few_pairs { pairs ≤ most_pairs }
     ensures read { MatchResult result (λ table. table_of pairs (word_lines text.now) ≡ Ok table)
         (λ err. (err ≡ TextErr.Memory) ⊎ (table_of pairs (word_lines text.now) ≡ Err err)) }
     ensures pairs { IfOk result (λ table. table.pairs ≡ pairs) }

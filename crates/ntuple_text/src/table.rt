@@ -2,7 +2,7 @@
 ghost use Rattle.std.specs.Prelude.{◌≡◌, ◌<◌, ◌≤◌, IfOk, IfSome, count_by, is_some, length, vec_len};
 ghost use Rattle.std.specs.Option.{option_copied};
 ghost use Rattle.ntuple_text.specs.Spellable.{IsSpellable, IsTable};
-ghost use Rattle.ntuple_text.specs.TableMaps.{empty_table, free_slots, last_free, location_count, pair_limit, spec_at};
+ghost use Rattle.ntuple_text.specs.TableMaps.{empty_table, free_slots, last_free, location_count, most_pairs, spec_at};
 ghost use Rattle.ntuple_text.specs.TableMaps.{spec_count, with_spec, without_spec};
 
 use crate::spec::Spec;
@@ -34,7 +34,7 @@ impl Table {
     /// memory.
     pub fn empty(alloc: Global, pairs: u8) -> Result<Table, AllocError>
         requires some_pairs { 1 ≤ pairs }
-        requires most_pairs { pairs ≤ pair_limit }
+        requires few_pairs { pairs ≤ most_pairs }
         ensures { IfOk result (λ table. table ≡ empty_table pairs) }
     {
         Ok(Table {

@@ -3,7 +3,7 @@ use Rattle.std.proofs.Common.{◌≡◌, ℕ, zero, suc, ◌+◌, ◌-◌, ◌<�
 use Rattle.std.proofs.lemmas.Bool.{cases_lt, leb-false}
 use Rattle.split_queue.specs.Chains.{most_descriptors}
 use Rattle.split_queue.specs.Descriptors.{descriptor_at}
-use Rattle.split_queue.specs.RingErrs.{HasWalkFault, IsChainFault, IsRingFault}
+use Rattle.split_queue.specs.Errors.{HasWalkFault, IsChainFault, IsRingFault}
 use Rattle.split_queue.specs.Walks.{bare_chain, next_in_chain, chain_from, chain_of, IsWalk, chain_along, fault_in_walk, HasWalk}
 use Rattle.split_queue.proofs.ChainSteps.{chain_from-fault, chain_from-last, chain_from-many, chain_from-next}
 use Rattle.split_queue.proofs.NextLaws.{next_in_chain-some, next_in_chain-none}

@@ -3,9 +3,9 @@ pub mod Chains
 pub mod Descriptors
 pub mod DeviceEnds
 pub mod DriverEnds
+pub mod Errors
 pub mod Pools
 pub mod QueuePlaces
-pub mod RingErrs
 pub mod Rings
 pub mod Setup
 pub mod Walks

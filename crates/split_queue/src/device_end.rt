@@ -4,7 +4,7 @@ ghost use Rattle.std.specs.Result.{result_err};
 ghost use Rattle.guest_mem.specs.Memory.{ChangesOnly};
 ghost use Rattle.split_queue.specs.Chains.{PieceLiesIn};
 ghost use Rattle.split_queue.specs.DeviceEnds.{device_start, pop_answer, answer_with, after_pop, after_push};
-ghost use Rattle.split_queue.specs.RingErrs.{IsRingFault};
+ghost use Rattle.split_queue.specs.Errors.{IsRingFault};
 ghost use Rattle.split_queue.specs.Rings.{available_idx, available_head, with_used_entry, IsInUsedEntry};
 ghost use Rattle.split_queue.specs.Setup.{setup_fault, IsPlaced};
 ghost use Rattle.split_queue.specs.Walks.{bare_chain, HasWalk};

@@ -21,7 +21,7 @@
 //! may lie there), `number` (in memory), `descriptor`, `ring`, `chain` (what a device gets), `walk` (from a head to its
 //! chain), `device_end`; `pool` (which descriptors are free), `driver_end`; `agreement` (laws of both ends together).
 //! The definitions stand in specs/, those of a module under its name: `QueuePlaces`, `Setup`, `Descriptors`,
-//! `Rings`, `Chains`, `RingErrs` (what each fault says), `Walks` (what a walk is, in its own words, and the chain of a
+//! `Rings`, `Chains`, `Errors` (what each fault says), `Walks` (what a walk is, in its own words, and the chain of a
 //! head), `DeviceEnds`, `Pools`, `DriverEnds`, `Agreement`.
 #![tactic(auto)]
 

@@ -1,7 +1,7 @@
 use Rattle.std.proofs.Common.{◌∙◌, arith, rules, subst}
 use Rattle.split_queue.proofs.PiecesInside.{pieces-inside}
 use Rattle.split_queue.proofs.OutcomeLaws.{chain-walk, chain-head, fault-walk, chain-ring_fault}
-use Rattle.split_queue.specs.RingErrs.{HasWalkFault}
+use Rattle.split_queue.specs.Errors.{HasWalkFault}
 use Rattle.split_queue.proofs.device_end.next_chain.Goals as goal
 
 pub returns-in-Ok-clause-head : goal.returns-in-Ok-clause-head
